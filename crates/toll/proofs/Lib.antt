@@ -1,0 +1,2 @@
+pub mod SecondsLaws
+pub mod GatesLaws

@@ -1,0 +1,4 @@
+pub mod Tolls
+pub mod SecondsKind
+pub mod GatesKind
+pub mod Refusals
