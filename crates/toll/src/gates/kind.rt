@@ -39,7 +39,10 @@ pub impl Toll for Gates as GatesToll {
     }
 
     fn join(self, other: Gates) -> Gates {
-        Gates::new(self.gates.saturating_add(other.gates), self.seconds.saturating_add(other.seconds))
+        Gates::new(
+            self.gates.saturating_add(other.gates),
+            self.seconds.saturating_add(other.seconds),
+        )
     }
 
     fn zero() -> Gates {

@@ -8,5 +8,6 @@ pub returns : need.returns
 returns c =
     let p = beside-cases (c .args .gates) (c .args .seconds) in
     elim (c .if-gates-eq65535 .came) [
-      then-gates-eq65535 w ↦ gates-same _ _ (omega arith) (omega arith)
-    | else-gates-eq65535 w ↦ gates-same _ _ (omega arith) (omega arith) ]
+      | then-gates-eq65535 w ↦ gates-same _ _ (omega arith) (omega arith)
+      | else-gates-eq65535 w ↦ gates-same _ _ (omega arith) (omega arith)
+    ]

@@ -1,0 +1,9 @@
+//! Floors: places, lanes between them, spots with tolls. The trait `Floor` says what every floor
+//! owes; `Hall` is a floor of cells in rows and columns.
+mod cells;
+mod floor;
+mod hall;
+
+pub use floor::Floor;
+pub use hall::Hall;
+pub use hall::floored::HallFloor;
