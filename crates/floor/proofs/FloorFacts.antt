@@ -5,7 +5,7 @@ use mathlib.Core.Bool.{Bool, true, false, cond}
 use mathlib.Core.Logic.{inl}
 use Prim.Native.Nat.{ℕ, zero, suc, _≤_, _<_}
 use native.Mathlib.Omega.{arith}
-use lib.ListN.{take, set}
+use lib.ListN.{length, take, set}
 use Rattle.std.specs.Options.{mapped}
 use Rattle.std.specs.Results.{isOk}
 use Rattle.std.specs.shelf.Maps.{nth}
@@ -20,14 +20,14 @@ use Rattle.floor.specs.Rising.{In, passing}
 use Rattle.floor.specs.Meaning.{Lane, Spot, Meaning, has, lanesBy}
 use Rattle.floor.specs.FloorLaws.{Listed}
 use Rattle.floor.specs.Setting.{ifEnough, answerAt, setAnswer, withToll, setMeaning, OnlyToll}
-use Rattle.floor.proofs.RisingFacts.{passing-rises, in-passing, passing-in}
+use Rattle.floor.proofs.RisingFacts.{passing-few, passing-rises, in-passing, passing-in}
 
-has-part : (part : Lane → ℕ) (p : ℕ) (o : Option Lane) → has part p o ≡ true → (x : Lane) × (o ≡ Some x) × (part x ≡ p)
+pub has-part : (part : Lane → ℕ) (p : ℕ) (o : Option Lane) → has part p o ≡ true → (x : Lane) × (o ≡ Some x) × (part x ≡ p)
 has-part part p None e = absurd (omega (arith, let z : _≡_ {A = ℕ} 0 1 = cc in z))
 has-part part p (Some x) e = (x, refl, grind (arith, tells))
 
-part-has : (part : Lane → ℕ) (p : ℕ) (x : Lane) → part x ≡ p → has part p (Some x) ≡ true
-part-has part p x e = grind (arith, tells)
+pub part-has : (part : Lane → ℕ) (p : ℕ) (o : Option Lane) (x : Lane) → o ≡ Some x → part x ≡ p → has part p o ≡ true
+part-has part p o x e q = ap (has part p) e ∙ grind (arith, tells)
 
 module _ {T : Type 0} (m : Meaning T) where
   -- the lanes of which a part is p are listed
@@ -35,9 +35,14 @@ module _ {T : Type 0} (m : Meaning T) where
   unfolding lanesBy
   listed below part p = record {
     rising = passing-rises (λ l. has part p (m .lane l)) 0 (m .lanes);
-    every = λ l x e q. in-passing (λ k. has part p (m .lane k)) 0 (m .lanes) l (omega arith) (omega (arith, below l x e)) (ap (has part p) e ∙ part-has part p x q);
+    every = λ l x e q. in-passing (λ k. has part p (m .lane k)) 0 (m .lanes) l (omega arith) (omega (arith, below l x e)) (part-has part p (m .lane l) x e q);
     only = λ l i. has-part part p (m .lane l) (passing-in (λ k. has part p (m .lane k)) 0 (m .lanes) l i .test);
   }
+
+  -- there are at most as many as lane numbers
+  pub listed-few : (part : Lane → ℕ) (p : ℕ) → length (lanesBy m part p) ≤ m .lanes
+  unfolding lanesBy
+  listed-few part p = passing-few (λ l. has part p (m .lane l)) 0 (m .lanes)
 
 -- a list with no member is empty
 pub none-in : (xs : List ℕ) → ((x : ℕ) → In x xs → ⊥) → xs ≡ []

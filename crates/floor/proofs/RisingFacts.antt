@@ -4,7 +4,8 @@ use mathlib.Core.Logic.{_⊎_, inl, inr, ⊎-elim}
 use mathlib.Core.Bool.{Bool, true, false, cond}
 use Prim.Native.Nat.{ℕ, zero, suc, _+_, _≤_, _<_}
 use native.Mathlib.Omega.{arith}
-use Rattle.std.proofs.shelf.Tests.{cases-bool, cases-eq, true≢false}
+use lib.ListN.{length}
+use Rattle.std.proofs.shelf.Tests.{cases-bool, cases-eq}
 use Rattle.floor.specs.Rising.{Rises, In, passing}
 
 pub in-above : (b x : ℕ) (xs : List ℕ) → Rises b xs → In x xs → b ≤ x
@@ -60,3 +61,9 @@ passing-in f a (suc n) x h =
     (λ (t : f a ≡ true). ⊎-elim (λ (e : x ≡ a). record { low = omega arith; high = omega arith; test = ap f e ∙ t }) more (subst (λ v. In x (cond v (a ∷ passing f (a + 1) n) (passing f (a + 1) n))) t h))
     (λ (t : f a ≡ false). more (subst (λ v. In x (cond v (a ∷ passing f (a + 1) n) (passing f (a + 1) n))) t h))
     (cases-bool (f a))
+
+pub passing-few : (f : ℕ → Bool) (a n : ℕ) → length (passing f a n) ≤ n
+passing-few f a zero = omega arith
+passing-few f a (suc n) =
+    let h = passing-few f (a + 1) n in
+    elim (f a) as (λ v. length (cond v (a ∷ passing f (a + 1) n) (passing f (a + 1) n)) ≤ suc n) [ true ↦ omega arith | false ↦ omega arith ]

@@ -1,0 +1,11 @@
+pub mod Entries
+pub mod Expanding
+pub mod Charts
+pub mod Order
+pub mod Best
+pub mod Opens
+pub mod Count
+pub mod Lanes
+pub mod Relaxing
+pub mod Choosing
+pub mod Running

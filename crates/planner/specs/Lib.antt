@@ -1,0 +1,5 @@
+pub mod Tree
+pub mod Ways
+pub mod Search
+pub mod Sound
+pub mod Runs

@@ -1,0 +1,9 @@
+//! The planner of one carrier: the table, the search over it, and the calls.
+mod expand;
+mod key;
+mod outcome;
+mod record;
+mod search;
+mod tree;
+
+pub use record::Record;
