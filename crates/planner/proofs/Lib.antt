@@ -9,3 +9,4 @@ pub mod Lanes
 pub mod Relaxing
 pub mod Choosing
 pub mod Running
+pub mod Walking

@@ -9,11 +9,12 @@ use mathlib.Core.Bool.{Bool, false, cond, _&&_}
 use Prim.Native.Nat.{ℕ, zero, suc, _-_}
 use lib.Dec.{eqb}
 use lib.ListN.{length}
-use Rattle.std.specs.Options.{mapped}
+use Rattle.std.specs.Options.{mapped, valueOr}
 use Rattle.std.specs.declared.option.Option.{Option}
 use Rattle.std.specs.declared.option.Option.the-variants.{Some, None}
 use Rattle.toll.specs.Tolls.{Tolls}
 use Rattle.floor.specs.Meaning.{Meaning, then, has, laneToll, outOf}
+use Rattle.planner.specs.declared.trace.Trace.{Trace}
 use Rattle.planner.specs.Tree.{Entry, tollAt, nextAt}
 
 -- the first of some lanes that enters q
@@ -49,8 +50,21 @@ abbrev pub sameToll : {T : Type 0} → Tolls T → T → Option T → Bool
 sameToll A c None = false
 sameToll A c (Some g) = A .le c g && A .le g c
 
--- the recorded way from s with its toll, where the floor bears it out: it reaches the target within places − 1 lanes,
+-- the places after s on its recorded way, and its toll, where the floor bears it out: it reaches the target within places − 1 lanes,
 -- has a lane at each step, and its toll is the one recorded
 abbrev pub borneOut : {T : Type 0} → Tolls T → Meaning T → List (Entry T) → (t s : ℕ) → Option (List ℕ × T)
 borneOut A m E t s =
-    then (recorded E t (length E - 1) s) (λ w. then (wayToll A m s w) (λ c. cond (sameToll A c (tollAt E s)) (Some (s ∷ w, c)) None))
+    then (recorded E t (length E - 1) s) (λ w. then (wayToll A m s w) (λ c. cond (sameToll A c (tollAt E s)) (Some (w, c)) None))
+
+-- a way's toll and the number of its lanes
+abbrev pub traced : {T : Type 0} → List ℕ → T → Trace T
+traced w c = record { toll = c; lanes = length w }
+
+-- the toll of the recorded way from p and the number of its lanes, if it gets to the target within n lanes and no lane is missing
+abbrev pub walked : {T : Type 0} → Tolls T → Meaning T → List (Entry T) → (t n p : ℕ) → Option (Trace T)
+walked A m E t n p = then (recorded E t n p) (λ w. mapped (traced w) (wayToll A m p w))
+
+-- n places from p on, each followed by its next place
+abbrev pub trail : {T : Type 0} → List (Entry T) → (n p : ℕ) → List ℕ
+trail E zero p = []
+trail E (suc n) p = p ∷ trail E n (valueOr (nextAt E p) p)

@@ -4,6 +4,8 @@ mod key;
 mod outcome;
 mod record;
 mod search;
+mod trace;
 mod tree;
+mod way;
 
 pub use record::Record;
