@@ -10,3 +10,7 @@ pub mod Relaxing
 pub mod Choosing
 pub mod Running
 pub mod Walking
+pub mod Starting
+pub mod Fronts
+pub mod Following
+pub mod Routing

@@ -3,3 +3,5 @@ pub mod Ways
 pub mod Search
 pub mod Sound
 pub mod Runs
+pub mod Calls
+pub mod Held
