@@ -14,3 +14,4 @@ pub mod Starting
 pub mod Fronts
 pub mod Following
 pub mod Routing
+pub mod Fitting
