@@ -43,12 +43,7 @@ pub record Least {T : Type 0} (A : Tolls T) (h : ℕ → T) (S : Chart T) (x : �
   pub itself : S .isOpen x ≡ true
   pub among : (y : ℕ) → S .isOpen y ≡ true → KeyLe A (key A h S x) (key A h S y)
 
--- no place stands twice
-abbrev pub Once : List ℕ → Type 0
-Once [] = Unit {0}
-Once (x ∷ xs) = (¬ (In x xs)) × Once xs
-
--- where a search stands: K is the last key that it opened, done are the places that it has opened
+-- where a search stands: K is the last key that it chose, done are the places that it has expanded
 pub record Front {T : Type 0} (A : Tolls T) (h : ℕ → T) (S : Chart T) (K : Key T) (done : List ℕ) : Type 0 where
   pub ahead : (y : ℕ) → S .isOpen y ≡ true → KeyLe A K (key A h S y)
   pub behind : (z : ℕ) → In z done → (S .isOpen z ≡ false) × KeyLe A (key A h S z) K

@@ -7,7 +7,7 @@ use native.Mathlib.Omega.{arith}
 use lib.ListN.{length}
 use Rattle.floor.specs.Rising.{In}
 use Rattle.planner.specs.Sound.{Follows}
-use Rattle.planner.proofs.Charts.{Once}
+use Rattle.planner.specs.RouteLaws.{Once}
 use Rattle.planner.proofs.Opens.{same}
 
 Under : ℕ → List ℕ → Type 0

@@ -94,7 +94,7 @@ abbrev pub guess : {T : Type 0} → Tolls T → Meaning T → ℕ → ℕ → T
 guess A m s p = valueOr (m .estimate s p) (A .zero)
 
 module _ {T : Type 0} {A : Tolls T} (L : TollLaws A) {m : Meaning T} (F : FloorLaws A m) where
-  self : (a : ℕ) → guess A m a a ≡ A .zero
+  pub self : (a : ℕ) → guess A m a a ≡ A .zero
   self a = ⊎-elim (λ (e : m .estimate a a ≡ None). ap (λ o. valueOr o (A .zero)) e)
       (λ r. let b = F .estimate-nowhere a a (ap isSome (r .1)) in ap (λ o. valueOr o (A .zero)) (F .estimate-here a (b .0))) (there? (m .estimate a a))
 

@@ -15,3 +15,7 @@ pub mod Fronts
 pub mod Following
 pub mod Routing
 pub mod Fitting
+pub mod Keeping
+pub mod Ending
+pub mod RouteProof
+pub mod StartSound

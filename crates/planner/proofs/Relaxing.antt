@@ -22,7 +22,7 @@ use Rattle.planner.specs.Tree.{Entry, tollAt, nextAt, openToll}
 use Rattle.planner.specs.Search.{improves, offer, offerLane, relaxed, closeAt, relaxFrom, expand}
 use Rattle.planner.specs.Sound.{Chart, chartOf, cost}
 use Rattle.planner.proofs.Charts.{Step}
-use Rattle.planner.proofs.Order.{not-both, lt-le}
+use Rattle.planner.proofs.Order.{split, not-both, lt-le}
 use Rattle.planner.proofs.Lanes.{Leads, there?, nth-there, between-leads, leads-between, lane-toll, leads-toll}
 
 -- an offer to one entry
@@ -220,3 +220,18 @@ module _ {T : Type 0} {A : Tolls T} (L : TollLaws A) {m : Meaning T} (F : FloorL
   -- the definition's expansion is an expansion of charts
   pub expands : Step A (cost A m) x (chartOf A E) (chartOf A (expand A m x E))
   expands = subst (λ G. Step A (cost A m) x (chartOf A E) (chartOf A G)) (sym expand-is) step₂
+
+  -- what an expansion records of a place: what it had, or a smaller toll by way of x
+  pub record Improved (u : ℕ) : Type 0 where
+    pub toll-is : tollAt (expand A m x E) u ≡ Some (A .join (cost A m u x) (chartOf A E .g x))
+    pub next-is : nextAt (expand A m x E) u ≡ Some x
+    pub lower : Lt A (A .join (cost A m u x) (chartOf A E .g x)) (chartOf A E .g u)
+
+  pub entry-after : (u : ℕ) → ((tollAt (expand A m x E) u ≡ tollAt E u) × (nextAt (expand A m x E) u ≡ nextAt E u)) ⊎ Improved u
+  unfolding shutx
+  entry-after u = split A (chartOf A E .g u) (A .join (cost A m u x) (chartOf A E .g x))
+      (λ k. inl (⊎-elim
+      (λ (q : u ≡ x). let f : nth (expand A m x E) u ≡ Some shutx = ap (λ G. nth G u) expand-is ∙ ap (nth E₂) q ∙ at-x in let o : nth E u ≡ Some e₀ = ap (nth E) q ∙ at in
+      (ap (λ v. then v (λ e. e .toll)) f ∙ sym (ap (λ v. then v (λ e. e .toll)) o), ap (λ v. then v (λ e. e .next)) f ∙ sym (ap (λ v. then v (λ e. e .next)) o)))
+      (λ ne. let f = ap (λ G. nth G u) expand-is ∙ same-toll u k ne in (ap (λ v. then v (λ e. e .toll)) f, ap (λ v. then v (λ e. e .next)) f)) (cases-eq u x)))
+      (λ k. let f = ap (λ G. nth G u) expand-is ∙ made-at u k in inr (record { toll-is = ap (λ v. then v (λ e. e .toll)) f; next-is = ap (λ v. then v (λ e. e .next)) f; lower = k }))

@@ -23,7 +23,8 @@ use Rattle.planner.specs.Runs.{Chosen, Expands, none, more}
 use Rattle.planner.specs.Sound.{Chart, chartOf, cost}
 use Rattle.planner.specs.declared.outcome.Outcome.{Outcome}
 use Rattle.planner.specs.declared.outcome.Outcome.the-variants.{Solved, NoWay}
-use Rattle.planner.proofs.Charts.{KeyLe, Estimate, Step, Least, Once, Front}
+use Rattle.planner.proofs.Charts.{KeyLe, Estimate, Step, Least, Front}
+use Rattle.planner.specs.RouteLaws.{Once}
 use Rattle.planner.proofs.Charts as chart
 use Rattle.planner.proofs.Order.{key-true}
 use Rattle.planner.proofs.Opens.{once, goes-on}
@@ -78,7 +79,7 @@ module _ {T : Type 0} {A : Tolls T} (L : TollLaws A) {m : Meaning T} (F : FloorL
   open-chart : (E : List (Entry T)) (y : ℕ) (g : T) → openToll E y ≡ Some g → chartOf A E .g y ≡ g
   open-chart E y g o = let r = open-toll E y g o in ap (λ v. valueOr (then v (λ e. e .toll)) (A .shut)) (r .1) ∙ ap (λ v. valueOr v (A .shut)) (r .2)
 
-  key-chart : (E : List (Entry T)) (y : ℕ) (g : T) → openToll E y ≡ Some g → chart.key A (guess A m s) (chartOf A E) y ≡ key A m s y g
+  pub key-chart : (E : List (Entry T)) (y : ℕ) (g : T) → openToll E y ≡ Some g → chart.key A (guess A m s) (chartOf A E) y ≡ key A m s y g
   key-chart E y g o = ap (λ v. record { far = A .join (guess A m s y) v; near = v }) (open-chart E y g o)
 
   -- a chosen place has the least key of the chart

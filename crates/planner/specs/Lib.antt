@@ -5,3 +5,4 @@ pub mod Sound
 pub mod Runs
 pub mod Calls
 pub mod Held
+pub mod RouteLaws

@@ -3,12 +3,14 @@
 -- Chart, chartOf               the tree as functions of the place
 -- cost A m u v                 the toll of the lane from u to v
 -- Follows, Climbs              next places lead from p to t, over the places w
--- Sound A m t E                the invariant
+-- SoundChart, Sound A m t E    the invariant
 use mathlib.Core.Path.{_≡_}
 use mathlib.Core.List.{List, [], _∷_}
 use mathlib.Core.Bool.{Bool, true, false}
-use Prim.Native.Nat.{ℕ}
+use Prim.Native.Nat.{ℕ, _<_}
+use lib.ListN.{length}
 use Rattle.std.specs.Options.{valueOr, isSome}
+use Rattle.std.specs.declared.option.Option.the-variants.{Some}
 use Rattle.toll.specs.Tolls.{Tolls, Le, Lt}
 use Rattle.floor.specs.Meaning.{Meaning}
 use Rattle.planner.specs.Tree.{Entry, tollAt, nextAt, openToll}
@@ -57,5 +59,12 @@ pub record SoundChart {T : Type 0} (A : Tolls T) (c : ℕ → ℕ → T) (t : �
   pub opened : (x : ℕ) → S .isOpen x ≡ true → InTree A S x
 
 -- the tree is sound on the floor
-abbrev pub Sound : {T : Type 0} → Tolls T → Meaning T → ℕ → List (Entry T) → Type 0
-Sound A m t E = SoundChart A (cost A m) t (chartOf A E)
+pub record Sound {T : Type 0} (A : Tolls T) (m : Meaning T) (t : ℕ) (E : List (Entry T)) : Type 0 where
+  -- there is an entry for each place, and the target is a place
+  pub size : length E ≡ m .places
+  pub aim : t < m .places
+  -- recorded tolls are below shut
+  pub below : (p : ℕ) (g : T) → tollAt E p ≡ Some g → Lt A g (A .shut)
+  -- every place in the tree but the target has a next place
+  pub linked : (p : ℕ) (g : T) → tollAt E p ≡ Some g → ¬ (p ≡ t) → isSome (nextAt E p) ≡ true
+  pub chart : SoundChart A (cost A m) t (chartOf A E)

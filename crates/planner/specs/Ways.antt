@@ -2,6 +2,7 @@
 -- laneBetween, tollBetween     the lane from one place to another, and its toll
 -- ends p w                     where the way from p over the places w leads
 -- wayToll A m p w              its toll, if each place is joined to the following by a lane
+-- Least A m t p g              no way from p to t is cheaper than g
 -- recorded E t n p             the places after p on its recorded way, within n lanes of the target
 use mathlib.Core.Path.{_≡_}
 use mathlib.Core.List.{List, [], _∷_}
@@ -12,7 +13,7 @@ use lib.ListN.{length}
 use Rattle.std.specs.Options.{mapped, valueOr}
 use Rattle.std.specs.declared.option.Option.{Option}
 use Rattle.std.specs.declared.option.Option.the-variants.{Some, None}
-use Rattle.toll.specs.Tolls.{Tolls}
+use Rattle.toll.specs.Tolls.{Tolls, Le}
 use Rattle.floor.specs.Meaning.{Meaning, then, has, laneToll, outOf}
 use Rattle.planner.specs.declared.trace.Trace.{Trace}
 use Rattle.planner.specs.Tree.{Entry, tollAt, nextAt}
@@ -39,6 +40,10 @@ ends p (q ∷ w) = ends q w
 abbrev pub wayToll : {T : Type 0} → Tolls T → Meaning T → ℕ → List ℕ → Option T
 wayToll A m p [] = Some (A .zero)
 wayToll A m p (q ∷ w) = then (tollBetween m p q) (λ c. mapped (λ d. A .join c d) (wayToll A m q w))
+
+-- no way from p to t has a smaller toll than g
+abbrev pub Least : {T : Type 0} → Tolls T → Meaning T → (t p : ℕ) → T → Type 0
+Least {T} A m t p g = (w : List ℕ) (c : T) → ends p w ≡ t → wayToll A m p w ≡ Some c → Le A g c
 
 -- the places after p on its recorded way to the target t, which follows next places, if it gets there within n lanes
 abbrev pub recorded : {T : Type 0} → List (Entry T) → (t n p : ℕ) → Option (List ℕ)

@@ -6,6 +6,7 @@ ghost use Rattle.planner.specs.Tree.{treeOf};
 ghost use Rattle.planner.specs.Ways.{borneOut};
 ghost use Rattle.planner.specs.Search.{seek};
 ghost use Rattle.planner.specs.Held.{Held};
+ghost use Rattle.planner.specs.RouteLaws.{RouteLaws};
 ghost use Rattle.planner.specs.Calls.{stateOf, wayAnswer, wayBuffer, searchAnswer, searchBuffer, routed, routeAnswer, routeSlip};
 use super::Planner;
 use crate::answers::Route;
@@ -88,6 +89,24 @@ impl<'t, T: Toll> Planner<'t, T> {
     /// Plans the way from the slip's place to the target, and writes its places to the front of the buffer.
     /// A refusal hands the same slip back; one that comes before the search leaves everything as it was.
     pub fn route<F: Floor<Toll = T>>(
+        &mut self,
+        floor: &F,
+        slip: Parked,
+        way: &mut [u16],
+    ) -> Result<(UnderWay, Route<T>), (Parked, Refusal)>
+        ensures answer { λ r. ⌜ routeAnswer r ≡ routed (T·Toll .tolls) (F·Floor .meaning (now (floor .entry))) (stateOf (now (self .entry))) (slip .place) (now (way .entry)) .answer ⌝ }
+        ensures state { λ _. ⌜ stateOf (now (self .exit)) ≡ routed (T·Toll .tolls) (F·Floor .meaning (now (floor .entry))) (stateOf (now (self .entry))) (slip .place) (now (way .entry)) .state ⌝ }
+        ensures buffer { λ _. ⌜ now (way .exit) ≡ routed (T·Toll .tolls) (F·Floor .meaning (now (floor .entry))) (stateOf (now (self .entry))) (slip .place) (now (way .entry)) .buffer ⌝ }
+        ensures slip { λ r. ⌜ routeSlip r ≡ slip .place ⌝ }
+        ensures held { λ _. ⌜ Held (now (self .entry)) (now (self .exit)) ⌝ }
+        ensures laws { λ _. ⌜ RouteLaws (T·Toll .tolls) (F·Floor .meaning (now (floor .entry))) (stateOf (now (self .entry))) (slip .place) (now (way .entry)) ⌝ }
+    {
+        floor.laws_hold();
+        self.route_by_rules(floor, slip, way)
+    }
+
+    /// A route by its rules alone.
+    fn route_by_rules<F: Floor<Toll = T>>(
         &mut self,
         floor: &F,
         slip: Parked,

@@ -2,6 +2,8 @@ ghost use mathlib.Core.Path.{_≡_};
 ghost use Prim.Native.Nat.{ℕ, _<_};
 ghost use lib.ListN.{length, drop, replicate};
 ghost use denote.Ref.{name};
+ghost use Rattle.std.specs.declared.result.Result.the-variants.{Ok};
+ghost use Rattle.planner.specs.Sound.{Sound};
 ghost use Rattle.planner.specs.Tree.{treeOf, blankEntry, startTree};
 ghost use Rattle.planner.specs.Calls.{stateOf, setUpAnswer, setUpState};
 use super::Planner;
@@ -65,6 +67,7 @@ impl<'t, T: Toll> Planner<'t, T> {
         ensures behind { λ r. ⌜ drop (r .0 .places) (now (r .0 .table)) ≡ drop (r .0 .places) (now (table .entry)) ⌝ }
         ensures lender { λ r. ⌜ name (r .0 .table) ≡ name (table .entry) ⌝ }
         ensures slip { λ r. ⌜ r .1 .place ≡ place ⌝ }
+        ensures sound { λ r. ⌜ (setUpAnswer (length (now (table .entry))) (F·Floor .meaning (now (floor .entry)) .places) target place ≡ Ok tt → Sound (T·Toll .tolls) (F·Floor .meaning (now (floor .entry))) target (stateOf (r .0) .tree)) ⌝ }
     {
         match Self::check(table, floor, target, place) {
             Ok(()) => {
