@@ -1,3 +1,4 @@
+use super::relaxation::at;
 use super::relaxation::settle;
 use floor::Floor;
 use planner::Parked;
@@ -83,22 +84,18 @@ fn agrees<F: Floor>(
         && same(way_toll(floor, found), other)
 }
 
-/// Plans on a floor by both programs, and scores whether they agree.
+/// Plans on a floor by both programs, and scores whether they agree. The tolls start with none and the table blank.
 pub fn compare_on<T: Toll, F: Floor<Toll = T>>(
     floor: &F,
     target: u16,
     from: u16,
+    tolls: &mut [Option<T>],
+    table: &mut [Record<T>],
     score: &mut Score,
 ) {
-    let mut tolls: [Option<T>; 1024] = [None; 1024];
-    settle(floor, target, &mut tolls);
-    let other = if (from as usize) < 1024 {
-        tolls[from as usize]
-    } else {
-        None
-    };
-    let mut table = [Record::blank(); 1024];
-    let (mut planner, slip) = Planner::make(&mut table, floor, u32::from(target), u32::from(from));
+    settle(floor, target, tolls);
+    let other = at(tolls, from);
+    let (mut planner, slip) = Planner::make(table, floor, u32::from(target), u32::from(from));
     let mut way = [0u16; 1024];
     let answer = planner.route(floor, slip, &mut way);
     let good = match answer {

@@ -4,6 +4,7 @@ use super::random::Random;
 use floor::Floor;
 use floor::Hall;
 use floor::HallFloor;
+use planner::Record;
 use toll::Seconds;
 use toll::SecondsToll;
 
@@ -36,8 +37,8 @@ fn roughen(random: &mut Random, hall: &mut Hall, least: u32) {
 }
 
 fn compare_hall(random: &mut Random, score: &mut Score) {
-    let rows = random.below(9) + 1;
-    let columns = random.below(9) + 1;
+    let rows = random.below(9).saturating_add(1);
+    let columns = random.below(9).saturating_add(1);
     let least = some_least(random);
     let Ok(hall) = Hall::make(rows, columns, Seconds::new(least)) else {
         return;
@@ -49,7 +50,16 @@ fn compare_hall(random: &mut Random, score: &mut Score) {
         let target = random.below(places);
         let from = random.below(places);
         if target < 1024 && from < 1024 {
-            compare_on(&hall, target as u16, from as u16, score);
+            let mut tolls: [Option<Seconds>; 1024] = [None; 1024];
+            let mut table = [Record::blank(); 1024];
+            compare_on(
+                &hall,
+                target as u16,
+                from as u16,
+                &mut tolls,
+                &mut table,
+                score,
+            );
         }
     }
     score.floors = score.floors.saturating_add(1);

@@ -9,9 +9,16 @@ fn improves<T: Toll>(held: Option<T>, toll: T) -> bool {
     }
 }
 
-fn at<T: Toll>(tolls: &[Option<T>], place: u16) -> Option<T> {
+pub fn at<T: Toll>(tolls: &[Option<T>], place: u16) -> Option<T> {
     let i = place as usize;
     if i < tolls.len() { tolls[i] } else { None }
+}
+
+fn record<T: Toll>(tolls: &mut [Option<T>], place: u16, toll: T) {
+    let i = place as usize;
+    if i < tolls.len() {
+        tolls[i] = Some(toll);
+    }
 }
 
 /// Tries one lane: its toll joined with that of the place that it enters. Whether a toll fell.
@@ -29,10 +36,7 @@ fn relax_lane<F: Floor>(floor: &F, lane: u16, tolls: &mut [Option<F::Toll>]) -> 
     if F::Toll::shut().at_most(toll) || !improves(at(tolls, from), toll) {
         return false;
     }
-    let i = from as usize;
-    if i < tolls.len() {
-        tolls[i] = Some(toll);
-    }
+    record(tolls, from, toll);
     true
 }
 
@@ -63,10 +67,7 @@ fn relax_all<F: Floor>(floor: &F, tolls: &mut [Option<F::Toll>]) -> bool {
 
 /// The least toll from each place to the target, none where every way is shut: relaxation until nothing falls.
 pub fn settle<F: Floor>(floor: &F, target: u16, tolls: &mut [Option<F::Toll>]) {
-    let i = target as usize;
-    if i < tolls.len() {
-        tolls[i] = Some(F::Toll::zero());
-    }
+    record(tolls, target, F::Toll::zero());
     for _ in 0..=floor.places() {
         if !relax_all(floor, tolls) {
             break;

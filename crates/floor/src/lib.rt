@@ -3,6 +3,8 @@
 mod cells;
 mod floor;
 mod hall;
+#[cfg(test)]
+mod tests;
 
 pub use floor::Floor;
 pub use hall::Hall;

@@ -101,30 +101,3 @@ pub fn parse(line: &[u8]) -> Option<Line>
         _ => None,
     }
 }
-
-#[cfg(test)]
-mod tests {
-    use super::*;
-    use crate::line::LineDebug;
-    use crate::line::LinePartialEq;
-    use std::test::*;
-
-    #[test]
-    fn numbers_at_the_edges() -> Result<(), Fail> {
-        check_eq(parse(b"P 0"), Some(Line::Put(0)))?;
-        check_eq(parse(b"P 4294967295"), Some(Line::Put(4294967295)))?;
-        check_eq(parse(b"P 4294967296"), None)?;
-        check_eq(parse(b"P 01"), None)?;
-        check_eq(parse(b"P 00000000001"), None)
-    }
-
-    #[test]
-    fn exactly_one_blank() -> Result<(), Fail> {
-        check_eq(parse(b"C 7 9"), Some(Line::Change { spot: 7, toll: 9 }))?;
-        check_eq(parse(b"C  7 9"), None)?;
-        check_eq(parse(b"C 7 9 "), None)?;
-        check_eq(parse(b"R "), None)?;
-        check_eq(parse(b"r"), None)?;
-        check_eq(parse(b""), None)
-    }
-}

@@ -3,6 +3,8 @@
 mod gates;
 mod refusal;
 mod seconds;
+#[cfg(test)]
+mod tests;
 mod toll;
 
 pub use gates::Gates;
