@@ -24,4 +24,10 @@ impl Random {
         let x = self.next();
         if bound == 0 { 0 } else { x % bound }
     }
+
+    /// The same for short numbers.
+    pub fn short(&mut self, bound: u16) -> u16 {
+        let x = (self.next() % 65536) as u16;
+        if bound == 0 { 0 } else { x % bound }
+    }
 }

@@ -45,22 +45,13 @@ fn compare_hall(random: &mut Random, score: &mut Score) {
     };
     let mut hall = hall;
     roughen(random, &mut hall, least);
-    let places = u32::from(hall.places());
+    let places = hall.places();
     for _ in 0..3u8 {
-        let target = random.below(places);
-        let from = random.below(places);
-        if target < 1024 && from < 1024 {
-            let mut tolls: [Option<Seconds>; 1024] = [None; 1024];
-            let mut table = [Record::blank(); 1024];
-            compare_on(
-                &hall,
-                target as u16,
-                from as u16,
-                &mut tolls,
-                &mut table,
-                score,
-            );
-        }
+        let target = random.short(places);
+        let from = random.short(places);
+        let mut tolls: [Option<Seconds>; 1024] = [None; 1024];
+        let mut table = [Record::blank(); 1024];
+        compare_on(&hall, target, from, &mut tolls, &mut table, score);
     }
     score.floors = score.floors.saturating_add(1);
 }
