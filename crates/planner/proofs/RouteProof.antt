@@ -24,11 +24,12 @@ use Rattle.planner.specs.declared.outcome.Outcome.the-variants as outcome
 use Rattle.planner.specs.Tree.{tollAt, nextAt}
 use Rattle.planner.specs.Ways.{ends, wayToll, Least, borneOut}
 use Rattle.planner.specs.Search.{Searched, seek, solved}
+use Rattle.planner.specs.Runs.{Expands, none}
 use Rattle.planner.specs.Sound.{Sound}
 use Rattle.planner.specs.Calls.{State, Routed, wayAnswer, wayBuffer, searchAnswer, searchBuffer, routeRefused, routeBy, routed}
 use Rattle.planner.specs.RouteLaws.{Once, expandedBy, CheapestWay, RouteLaws}
 use Rattle.planner.proofs.Running.{run-once}
-use Rattle.planner.proofs.Keeping.{run-sound, run-stays}
+use Rattle.planner.proofs.Keeping.{expand-sound, run-sound, run-stays}
 use Rattle.planner.proofs.Ending.{seek-run, seek-solved, seek-spent, own, climb, solved-least, solved-toll, solved-leads, solved-borne, spent-shut}
 
 -- before its search a route is refused with 11, 9 or 7 alone
@@ -48,6 +49,7 @@ module _ {T : Type 0} {A : Tolls T} (L : TollLaws A) {m : Meaning T} (F : FloorL
   -- the laws of a route, by why it may be refused before its search
   record Laws (o : Option Refusal) : Type 0 where
     once : Once (expandedBy A m S s o)
+    run : Expands A m s (S .tree) (expandedBy A m S s o) (routeBy A m S s buffer o .state .tree)
     sound : Sound A m (S .target) (S .tree) → Sound A m (S .target) (routeBy A m S s buffer o .state .tree)
     cheapest : Sound A m (S .target) (S .tree) → (a : Route T) → routeBy A m S s buffer o .answer ≡ Ok a → CheapestWay A m (S .target) s buffer (routeBy A m S s buffer o .buffer) a
     shut : Sound A m (S .target) (S .tree) → routeBy A m S s buffer o .answer ≡ Err NoWay → (w : List ℕ) (c : T) → ends s w ≡ S .target → wayToll A m s w ≡ Some c → c ≡ A .shut
@@ -58,6 +60,7 @@ module _ {T : Type 0} {A : Tolls T} (L : TollLaws A) {m : Meaning T} (F : FloorL
   refused : (why : Refusal) → (why ≡ OtherFloor) ⊎ ((why ≡ ShortBuffer) ⊎ (why ≡ UnknownPlace)) → Laws (Some why)
   refused why k = record {
     once = tt;
+    run = none;
     sound = λ G. G;
     cheapest = λ G a e. absurd (let z : _≡_ {A = ℕ} 0 1 = cc in omega arith);
     shut = λ G e. absurd (other NoWay (λ q. let z : _≡_ {A = ℕ} 0 1 = cc in omega arith) (λ q. let z : _≡_ {A = ℕ} 0 1 = cc in omega arith) (λ q. let z : _≡_ {A = ℕ} 0 1 = cc in omega arith) (let q : why ≡ NoWay = cc in q));
@@ -116,6 +119,7 @@ module _ {T : Type 0} {A : Tolls T} (L : TollLaws A) {m : Meaning T} (F : FloorL
     unfolding R
     searched = record {
       once = run-once L F s size (seek-run L F s (S .tree) size) .once;
+      run = seek-run L F s (S .tree) size;
       sound = after-sound;
       cheapest = answered (R .outcome) refl;
       shut = closed (R .outcome) refl;
@@ -128,4 +132,4 @@ module _ {T : Type 0} {A : Tolls T} (L : TollLaws A) {m : Meaning T} (F : FloorL
   laws (Some why) e = refused why (early (length (S .tree)) (m .places) (length buffer) s why e)
 
   pub route-laws : RouteLaws A m S s buffer
-  route-laws = let k = laws (routeRefused (length (S .tree)) (m .places) (length buffer) s) refl in record { once = k .once; sound = k .sound; cheapest = k .cheapest; shut = k .shut; whole = k .whole; stays = k .stays }
+  route-laws = let k = laws (routeRefused (length (S .tree)) (m .places) (length buffer) s) refl in record { once = k .once; run = k .run; each = expand-sound L F; sound = k .sound; cheapest = k .cheapest; shut = k .shut; whole = k .whole; stays = k .stays }

@@ -12,9 +12,10 @@ use Rattle.toll.specs.declared.refusal.Refusal.the-variants.{NoWay, BrokenWay}
 use Rattle.floor.specs.Rising.{In}
 use Rattle.floor.specs.Meaning.{Meaning}
 use Rattle.planner.specs.declared.answers.Route.{Route}
-use Rattle.planner.specs.Tree.{tollAt, nextAt}
+use Rattle.planner.specs.Tree.{Entry, tollAt, nextAt}
 use Rattle.planner.specs.Ways.{ends, wayToll, Least}
-use Rattle.planner.specs.Search.{seek}
+use Rattle.planner.specs.Search.{expand, seek}
+use Rattle.planner.specs.Runs.{Chosen, Expands}
 use Rattle.planner.specs.Sound.{Sound}
 use Rattle.planner.specs.Calls.{State, routeRefused, routed}
 
@@ -41,7 +42,11 @@ pub record CheapestWay {T : Type 0} (A : Tolls T) (m : Meaning T) (t s : ℕ) (b
 pub record RouteLaws {T : Type 0} (A : Tolls T) (m : Meaning T) (S : State T) (s : ℕ) (buffer : List ℕ) : Type 0 where
   -- no place is expanded twice, on any tree
   pub once : Once (expandedBy A m S s (routeRefused (length (S .tree)) (m .places) (length buffer) s))
-  -- a sound tree stays sound
+  -- the tree that a route leaves comes about by expanding those places, each chosen in its turn, on any tree
+  pub run : Expands A m s (S .tree) (expandedBy A m S s (routeRefused (length (S .tree)) (m .places) (length buffer) s)) (routed A m S s buffer .state .tree)
+  -- expanding the search's choice keeps any sound tree sound
+  pub each : (E : List (Entry T)) (x : ℕ) → Sound A m (S .target) E → Chosen A m s E x → Sound A m (S .target) (expand A m x E)
+  -- so a sound tree stays sound
   pub sound : Sound A m (S .target) (S .tree) → Sound A m (S .target) (routed A m S s buffer .state .tree)
   -- on a sound tree an answer is a cheapest way
   pub cheapest : Sound A m (S .target) (S .tree) → (a : Route T) → routed A m S s buffer .answer ≡ Ok a → CheapestWay A m (S .target) s buffer (routed A m S s buffer .buffer) a
