@@ -2,7 +2,7 @@ ghost use mathlib.Core.Path.{_≡_};
 ghost use Rattle.jobtext.specs.LineTexts.{letter};
 
 /// A line of a job; above each, how it is written.
-#[derive(Clone, Copy, PartialEq, Eq, Debug)]
+#[derive(Clone, Copy)]
 pub enum Line {
     /// F rows columns least target place
     Floor {
