@@ -5,11 +5,11 @@ use Rattle.tree.proofs.Items.{nth_below}
 use Rattle.astar.proofs.Expanding.{relax_more, relax_end}
 use Rattle.astar.proofs.expand.relax_all.Goals as goal
 
-pub overflow-add-k : goal.overflow-add-k
-overflow-add-k g c =
+pub overflow_add-k : goal.overflow_add-k
+overflow_add-k g c =
     let m = g.F.Floor.meaning c.args.floor.now in
     let b = nth_below (into m c.args.place) c.loop-lane.k c.in-Some.lane (sym c.in-Some.ensures) in
-    omega (arith, listed_few m (λ x. x.enters) c.args.place, c.laws-hold.ensures.few_lanes)
+    omega (arith, listed_few m (λ x. x.enters) c.args.place, c.laws_hold.ensures.few_lanes)
 
 pub loop-lane-smaller : goal.loop-lane-smaller
 loop-lane-smaller g c =
@@ -25,4 +25,4 @@ loop-lane-preserved g c =
 pub returns : goal.returns
 returns g c =
     let m = g.F.Floor.meaning c.args.floor.now in
-    relax_end g.T.Toll.tolls m c.args.place c.args.toll (into m c.args.place) c.loop-lane.k _ _ (sym c.in-default.ensures) c.loop-lane.invariant
+    relax_end g.T.Toll.tolls m c.args.place c.args.toll (into m c.args.place) c.loop-lane.k _ _ (sym c.in_default.ensures) c.loop-lane.invariant

@@ -11,8 +11,8 @@ loop-place-preserved g c =
     let m = g.F.Floor.meaning c.args.floor.now in
     let p = c.loop-place.place in
     c.better-best.ensures
-    ∙ ap (λ b. better A b p c.key-of.result) c.loop-place.invariant
-    ∙ ap (better A (best A m c.args.from (tree_of c.args.table.now) p) p) (c.key-of.ensures ∙ ap (option_map (key A m c.args.from p)) c.open_toll.ensures)
+    ∙ ap (λ b. better A b p c.key_of.result) c.loop-place.invariant
+    ∙ ap (better A (best A m c.args.from (tree_of c.args.table.now) p) p) (c.key_of.ensures ∙ ap (option_map (key A m c.args.from p)) c.open_toll.ensures)
     ∙ ap (best A m c.args.from (tree_of c.args.table.now)) (sym (add-one p))
 
 pub returns : goal.returns

@@ -4,7 +4,7 @@ use Rattle.std.proofs.Common.{replicate}
 use Rattle.job_all.proofs.Fitting.{served_fits}
 use Rattle.job_all.proofs.serve.serve_line.Goals as goal
 
-pub write-answer-requires : goal.write-answer-requires
-write-answer-requires c =
+pub write_answer-requires : goal.write_answer-requires
+write_answer-requires c =
     served_fits (world_of (hall_meaning c.args.hall.now) c.args.planner.now) (turn_of c.args.carrier c.in-Some.call (replicate 1024 0)) _ _
     c.serve-carrier.ensures.answer c.serve-carrier.ensures.buffer c.serve-carrier.auto.way

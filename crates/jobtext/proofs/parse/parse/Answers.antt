@@ -5,10 +5,10 @@ use Rattle.jobtext.proofs.parse.parse.Goals as goal
 
 pub returns-in-len1 : goal.returns-in-len1
 returns-in-len1 c =
-    let v : c.by-letter.result ≡ parse_line c.args.line.now = search rules in
+    let v : c.by_letter.result ≡ parse_line c.args.line.now = search rules in
     record { value = v; only = λ l e. parse_only _ l (sym v ∙ e); every = λ l s. v ∙ parse_every _ l s }
 
-pub returns-in-default : goal.returns-in-default
-returns-in-default c =
+pub returns-in_default : goal.returns-in_default
+returns-in_default c =
     let v : None ≡ parse_line c.args.line.now = search rules in
     record { value = v; only = λ l e. parse_only _ l (sym v ∙ e); every = λ l s. v ∙ parse_every _ l s }

@@ -5,14 +5,14 @@ use Rattle.tree.proofs.Items.{nth_below}
 use Rattle.repair.proofs.Somes.{found, passed, spent}
 use Rattle.repair.proofs.cut.beside_marked.Goals as goal
 
-pub returns-then-leaves-marked : goal.returns-then-leaves-marked
-returns-then-leaves-marked g c = found _ (into (g.F.Floor.meaning c.args.floor.now) c.args.place) c.loop-lane.k _ c.loop-lane.invariant c.in-Some.lane (sym c.in-Some.ensures) c.leaves-marked.result c.leaves-marked.ensures c.if-leaves-marked.true
+pub returns-then-leaves_marked : goal.returns-then-leaves_marked
+returns-then-leaves_marked g c = found _ (into (g.F.Floor.meaning c.args.floor.now) c.args.place) c.loop-lane.k _ c.loop-lane.invariant c.in-Some.lane (sym c.in-Some.ensures) c.leaves_marked.result c.leaves_marked.ensures c.if-leaves_marked.true
 
-pub overflow-add-k : goal.overflow-add-k
-overflow-add-k g c =
+pub overflow_add-k : goal.overflow_add-k
+overflow_add-k g c =
     let m = g.F.Floor.meaning c.args.floor.now in
     let b = nth_below (into m c.args.place) c.loop-lane.k c.in-Some.lane (sym c.in-Some.ensures) in
-    omega (arith, listed_few m (λ x. x.enters) c.args.place, c.laws-hold.ensures.few_lanes)
+    omega (arith, listed_few m (λ x. x.enters) c.args.place, c.laws_hold.ensures.few_lanes)
 
 pub loop-lane-smaller : goal.loop-lane-smaller
 loop-lane-smaller g c =
@@ -20,7 +20,7 @@ loop-lane-smaller g c =
     omega arith
 
 pub loop-lane-preserved : goal.loop-lane-preserved
-loop-lane-preserved g c = passed _ (into (g.F.Floor.meaning c.args.floor.now) c.args.place) c.loop-lane.k _ c.loop-lane.invariant c.in-Some.lane (sym c.in-Some.ensures) c.leaves-marked.result c.leaves-marked.ensures c.if-leaves-marked.false
+loop-lane-preserved g c = passed _ (into (g.F.Floor.meaning c.args.floor.now) c.args.place) c.loop-lane.k _ c.loop-lane.invariant c.in-Some.lane (sym c.in-Some.ensures) c.leaves_marked.result c.leaves_marked.ensures c.if-leaves_marked.false
 
 pub returns : goal.returns
-returns g c = spent _ (into (g.F.Floor.meaning c.args.floor.now) c.args.place) c.loop-lane.k _ c.loop-lane.invariant (sym c.in-default.ensures)
+returns g c = spent _ (into (g.F.Floor.meaning c.args.floor.now) c.args.place) c.loop-lane.k _ c.loop-lane.invariant (sym c.in_default.ensures)

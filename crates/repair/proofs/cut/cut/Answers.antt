@@ -9,8 +9,8 @@ pub loop-place-preserved : goal.loop-place-preserved
 loop-place-preserved g c =
     let m = g.F.Floor.meaning c.args.floor.now in
     let E = tree_of c.loop-place.table in (
-      onward_more (cut_at m (marks_of c.args.table.now)) c.loop-place.place E _ c.loop-place.invariant.0 _ (c.cut-at.ensures.entries ∙ ap (λ ms. alter (cut_at m ms c.loop-place.place) E c.loop-place.place) c.loop-place.invariant.1),
-      c.cut-at.ensures.marks ∙ c.loop-place.invariant.1,
+      onward_more (cut_at m (marks_of c.args.table.now)) c.loop-place.place E _ c.loop-place.invariant.0 _ (c.cut_at.ensures.entries ∙ ap (λ ms. alter (cut_at m ms c.loop-place.place) E c.loop-place.place) c.loop-place.invariant.1),
+      c.cut_at.ensures.marks ∙ c.loop-place.invariant.1,
     )
 
 pub returns : goal.returns

@@ -17,8 +17,8 @@ loop-place-preserved g c =
     let d = drops (g.F.Floor.meaning c.args.floor.now) c.args.spot c.args.target in
     let p = c.loop-place.place in
     let ms = marks_of c.loop-place.table in (
-      c.set-mark.ensures.entries ∙ c.loop-place.invariant.0,
-      onward_more (λ q _. d (tree_of c.args.table.now) q) p ms _ c.loop-place.invariant.1 _ (c.set-mark.ensures.marks ∙ ap (λ b. alter (λ _. b) ms p) (c.drops-is-dropped.ensures ∙ ap (λ E. d E p) c.loop-place.invariant.0)),
+      c.set_mark.ensures.entries ∙ c.loop-place.invariant.0,
+      onward_more (λ q _. d (tree_of c.args.table.now) q) p ms _ c.loop-place.invariant.1 _ (c.set_mark.ensures.marks ∙ ap (λ b. alter (λ _. b) ms p) (c.drops-is_dropped.ensures ∙ ap (λ E. d E p) c.loop-place.invariant.0)),
     )
 
 pub returns : goal.returns

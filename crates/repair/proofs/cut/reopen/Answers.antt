@@ -7,7 +7,7 @@ use Rattle.repair.proofs.cut.reopen.Goals as goal
 
 pub loop-place-preserved : goal.loop-place-preserved
 loop-place-preserved g c =
-    onward_more (λ p. opened_if (entered_by (g.F.Floor.meaning c.args.floor.now) c.args.spot p)) c.loop-place.place (tree_of c.loop-place.table) _ c.loop-place.invariant _ c.reopen-at.ensures
+    onward_more (λ p. opened_if (entered_by (g.F.Floor.meaning c.args.floor.now) c.args.spot p)) c.loop-place.place (tree_of c.loop-place.table) _ c.loop-place.invariant _ c.reopen_at.ensures
 
 pub returns : goal.returns
 returns g c =

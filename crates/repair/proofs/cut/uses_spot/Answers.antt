@@ -10,9 +10,9 @@ pub returns-then-place-target : goal.returns-then-place-target
 returns-then-place-target g c =
     uses_arrived (g.F.Floor.meaning c.args.floor.now) c.args.spot (tree_of c.args.table.now) c.args.target (length c.args.table.now) c.loop.counter c.loop.place _ (omega arith) c.loop.invariant c.if-place-target.true
 
-pub returns-in-default : goal.returns-in-default
-returns-in-default g c =
-    uses_no_next (g.F.Floor.meaning c.args.floor.now) c.args.spot (tree_of c.args.table.now) c.args.target (length c.args.table.now) c.loop.counter c.loop.place _ (omega arith) c.loop.invariant c.if-place-target.false (sym c.in-default.ensures)
+pub returns-in_default : goal.returns-in_default
+returns-in_default g c =
+    uses_no_next (g.F.Floor.meaning c.args.floor.now) c.args.spot (tree_of c.args.table.now) c.args.target (length c.args.table.now) c.loop.counter c.loop.place _ (omega arith) c.loop.invariant c.if-place-target.false (sym c.in_default.ensures)
 
 pub returns-then-joins : goal.returns-then-joins
 returns-then-joins g c =

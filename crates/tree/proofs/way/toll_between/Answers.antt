@@ -9,11 +9,11 @@ pub returns-then-enters : goal.returns-then-enters
 returns-then-enters g c =
     arrived (g.F.Floor.meaning c.args.floor.now) c.args.from c.args.to c.loop-lane.k c.in-Some.lane c.loop-lane.invariant (sym c.in-Some.ensures) (sym c.enters.ensures ∙ c.if-enters.true) c.lane_toll.result c.lane_toll.ensures
 
-pub overflow-add-k : goal.overflow-add-k
-overflow-add-k g c =
+pub overflow_add-k : goal.overflow_add-k
+overflow_add-k g c =
     let m = g.F.Floor.meaning c.args.floor.now in
     let b = nth_below (out_of m c.args.from) c.loop-lane.k c.in-Some.lane (sym c.in-Some.ensures) in
-    omega (arith, listed_few m (λ x. x.leaves) c.args.from, c.laws-hold.ensures.few_lanes)
+    omega (arith, listed_few m (λ x. x.leaves) c.args.from, c.laws_hold.ensures.few_lanes)
 
 pub loop-lane-smaller : goal.loop-lane-smaller
 loop-lane-smaller g c =
@@ -26,4 +26,4 @@ loop-lane-preserved g c =
     passed_on (g.F.Floor.meaning c.args.floor.now) c.args.from c.args.to c.loop-lane.k c.in-Some.lane c.loop-lane.invariant (sym c.in-Some.ensures) (sym c.enters.ensures ∙ c.if-enters.false)
 
 pub returns : goal.returns
-returns g c = no_lane (g.F.Floor.meaning c.args.floor.now) c.args.from c.args.to c.loop-lane.k c.loop-lane.invariant (sym c.in-default.ensures)
+returns g c = no_lane (g.F.Floor.meaning c.args.floor.now) c.args.from c.args.to c.loop-lane.k c.loop-lane.invariant (sym c.in_default.ensures)

@@ -3,8 +3,8 @@ use Rattle.std.proofs.lemmas.Bool.Decides.{nat_tests}
 use Rattle.floor.proofs.GridFacts.{row_fits, next_hop}
 use Rattle.floor.proofs.hall.Hall.next.Goals as goal
 
-pub overflow-add-cell-in-2 : goal.overflow-add-cell-in-2
-overflow-add-cell-in-2 c = omega (arith, row_fits c.args.self.now.rows c.args.self.now.columns c.args.cell c.requires.0)
+pub overflow_add-cell-in-2 : goal.overflow_add-cell-in-2
+overflow_add-cell-in-2 c = omega (arith, row_fits c.args.self.now.rows c.args.self.now.columns c.args.cell c.requires.0)
 
 pub returns-then-cell-self-3 : goal.returns-then-cell-self-3
 returns-then-cell-self-3 c =

@@ -4,16 +4,16 @@ use Rattle.lanes.specs.Records.{plan_size}
 use Rattle.lanes.proofs.FairFacts.{answer_is, words}
 use Rattle.lanes.proofs.plan.LanePlan.check.Goals as goal
 
-pub returns-then-all-fair : goal.returns-then-all-fair
-returns-then-all-fair g c =
+pub returns-then-all_fair : goal.returns-then-all_fair
+returns-then-all_fair g c =
     let p = c.args.places in let rs = c.args.lanes.now in
     let size : plan_size p (length rs) ≡ true = grind (arith, nat_tests) in
-    let e = sym (answer_is p rs true true size (sym c.all-fair.ensures ∙ c.if-all-fair.true)) in
+    let e = sym (answer_is p rs true true size (sym c.all_fair.ensures ∙ c.if-all_fair.true)) in
     record { answer = e; fits = words p rs _ e }
 
-pub returns-else-all-fair : goal.returns-else-all-fair
-returns-else-all-fair g c =
+pub returns-else-all_fair : goal.returns-else-all_fair
+returns-else-all_fair g c =
     let p = c.args.places in let rs = c.args.lanes.now in
     let size : plan_size p (length rs) ≡ true = grind (arith, nat_tests) in
-    let e = sym (answer_is p rs true false size (sym c.all-fair.ensures ∙ c.if-all-fair.false)) in
+    let e = sym (answer_is p rs true false size (sym c.all_fair.ensures ∙ c.if-all_fair.false)) in
     record { answer = e; fits = words p rs _ e }

@@ -5,8 +5,8 @@ use Rattle.lanes.specs.Plans.{retolled}
 use Rattle.lanes.proofs.StoreFacts.{retolled_length, retolled_fair}
 use Rattle.lanes.proofs.plan.LanePlan.store.Goals as goal
 
-pub invariant-of-self : goal.invariant-of-self
-invariant-of-self g c =
+pub invariant_of-self : goal.invariant_of-self
+invariant_of-self g c =
     let p = c.args.self.now in let k = c.args.k in let t = c.args.toll in
     let after : c.rewrite.new.lanes ≡ retolled p.lanes.now k t =
     c.rewrite.ensures ∙ ap (λ (r : Bor (List (LaneRecord g.row.T.Denot))). retolled r.now k t) c.replace-lanes.ensures.value in

@@ -25,6 +25,6 @@ returns-in-Ok g c =
       behind = front_behind c.start.new.table rs n (n - 0) z size;
       lender = refl;
       slip = refl;
-      reachable = λ ok. subst (Reachable g.T.Toll.tolls (record { floor = m; records = length rs; target = c.args.target; place = c.args.place }) []) (ap (λ E. record { floor = m; planner = record { target = c.args.target; tree = E; tally = 0 } }) (sym tree)) (set_up c.laws-hold.ensures ok);
+      reachable = λ ok. subst (Reachable g.T.Toll.tolls (record { floor = m; records = length rs; target = c.args.target; place = c.args.place }) []) (ap (λ E. record { floor = m; planner = record { target = c.args.target; tree = E; tally = 0 } }) (sym tree)) (set_up c.laws_hold.ensures ok);
       sound = λ _. subst (Sound g.T.Toll.tolls m c.args.target) (sym tree) (start_sound g.met.T.Toll.lawful m c.args.target a.aim);
     }

@@ -5,8 +5,8 @@ use Rattle.repair.specs.Cut.{repaired}
 use Rattle.planner.proofs.Fronts.{front_same, front_size, written_front, written_behind}
 use Rattle.planner.proofs.planner.Planner.mend.Goals as goal
 
-pub slice-bounds-repair-end : goal.slice-bounds-repair-end
-slice-bounds-repair-end g c = omega (arith, c.size-size.ensures, front_size c.args.self.now.table.now c.args.self.now.places)
+pub slice_bounds-repair-end : goal.slice_bounds-repair-end
+slice_bounds-repair-end g c = omega (arith, c.size-size.ensures, front_size c.args.self.now.table.now c.args.self.now.places)
 
 pub returns : goal.returns
 returns g c =

@@ -5,14 +5,14 @@ use Rattle.planner.proofs.planner.Planner.route.Goals as goal
 
 pub returns : goal.returns
 returns g c =
-    let e = c.route-by-rules.ensures in
+    let e = c.route_by_rules.ensures in
     record {
       answer = e.answer;
       state = e.state;
       buffer = e.buffer;
       slip = e.slip;
       held = e.held;
-      laws = route_laws g.met.T.Toll.lawful c.laws-hold.ensures (state_of c.args.self.now) c.args.slip.place c.args.way.now;
-      expanded = λ t. route_expanded_as g.met.T.Toll.lawful (g.F.Floor.meaning c.args.floor.now) c.args.self.now c.args.slip.place c.args.way.now c.route-by-rules.new.self c.laws-hold.ensures t e.answer e.slip e.state e.buffer;
-      promise = route_keeps g.met.T.Toll.lawful (g.F.Floor.meaning c.args.floor.now) c.args.self.now c.args.slip.place c.args.way.now c.route-by-rules.new.self e.answer e.slip e.state e.buffer;
+      laws = route_laws g.met.T.Toll.lawful c.laws_hold.ensures (state_of c.args.self.now) c.args.slip.place c.args.way.now;
+      expanded = λ t. route_expanded_as g.met.T.Toll.lawful (g.F.Floor.meaning c.args.floor.now) c.args.self.now c.args.slip.place c.args.way.now c.route_by_rules.new.self c.laws_hold.ensures t e.answer e.slip e.state e.buffer;
+      promise = route_keeps g.met.T.Toll.lawful (g.F.Floor.meaning c.args.floor.now) c.args.self.now c.args.slip.place c.args.way.now c.route_by_rules.new.self e.answer e.slip e.state e.buffer;
     }

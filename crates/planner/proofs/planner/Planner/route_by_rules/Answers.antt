@@ -5,8 +5,8 @@ use Rattle.planner.proofs.Fronts.{front_size, route_elsewhere}
 use Rattle.planner.proofs.Routing.{route_answer_lem, route_buffer, route_state, route_behind}
 use Rattle.planner.proofs.planner.Planner.route_by_rules.Goals as goal
 
-pub slice-bounds-plan-end : goal.slice-bounds-plan-end
-slice-bounds-plan-end g c = omega (arith, c.size-size.ensures, front_size c.args.self.now.table.now c.args.self.now.places)
+pub slice_bounds-plan-end : goal.slice_bounds-plan-end
+slice_bounds-plan-end g c = omega (arith, c.size-size.ensures, front_size c.args.self.now.table.now c.args.self.now.places)
 
 pub returns-then-places-size : goal.returns-then-places-size
 returns-then-places-size g c =
@@ -25,9 +25,9 @@ returns g c =
     let k : size - 0 ≡ size = omega arith in
     let f : m.places ≡ size = sym c.places.ensures ∙ c.if-places-size.false in
     record {
-      answer = route_answer_lem A m p.table.now p.places p.target p.tally c.args.slip.place c.args.way.now size (size - 0) c.size-size.ensures k f (omega arith) (omega arith) (c.hand-over.ensures.answer ∙ c.plan-count.ensures.answer);
-      state = route_state A m p.table.now p.places p.target p.tally c.args.slip.place c.args.way.now size (size - 0) c.size-size.ensures k f (omega arith) (omega arith) c.plan-count.new.table c.plan-count.auto.table c.plan-count.ensures.table c.plan-count.ensures.count c.saturating-add-self.ensures;
+      answer = route_answer_lem A m p.table.now p.places p.target p.tally c.args.slip.place c.args.way.now size (size - 0) c.size-size.ensures k f (omega arith) (omega arith) (c.hand_over.ensures.answer ∙ c.plan-count.ensures.answer);
+      state = route_state A m p.table.now p.places p.target p.tally c.args.slip.place c.args.way.now size (size - 0) c.size-size.ensures k f (omega arith) (omega arith) c.plan-count.new.table c.plan-count.auto.table c.plan-count.ensures.table c.plan-count.ensures.count c.saturating_add-self.ensures;
       buffer = route_buffer A m p.table.now p.places p.target p.tally c.args.slip.place c.args.way.now size (size - 0) c.size-size.ensures k f (omega arith) (omega arith) c.plan-count.ensures.buffer;
-      slip = c.hand-over.ensures.slip ∙ ap (slip_by (λ a. under_way_at c.args.slip.place) (parked_at c.args.slip.place)) (route_answer_lem A m p.table.now p.places p.target p.tally c.args.slip.place c.args.way.now size (size - 0) c.size-size.ensures k f (omega arith) (omega arith) c.plan-count.ensures.answer);
+      slip = c.hand_over.ensures.slip ∙ ap (slip_by (λ a. under_way_at c.args.slip.place) (parked_at c.args.slip.place)) (route_answer_lem A m p.table.now p.places p.target p.tally c.args.slip.place c.args.way.now size (size - 0) c.size-size.ensures k f (omega arith) (omega arith) c.plan-count.ensures.answer);
       held = record { places = refl; behind = route_behind A m p.table.now p.places p.target p.tally c.args.slip.place c.args.way.now size (size - 0) c.size-size.ensures k f (omega arith) (omega arith) c.plan-count.new.table c.plan-count.auto.table; lender = refl };
     }

@@ -10,5 +10,5 @@ returns g c =
     let e = c.in-Some.ensures.value in
     record {
       answer = follow_answer A m E c.args.target c.args.from c.in-Some.trace e c.args.count;
-      buffer = follow_buffer A m E c.args.target c.args.from c.in-Some.trace e _ c.args.way.now c.write-way.ensures;
+      buffer = follow_buffer A m E c.args.target c.args.from c.in-Some.trace e _ c.args.way.now c.write_way.ensures;
     }

@@ -9,5 +9,5 @@ returns-then-place-size c = sym (ap (λ (xs : List ℕ). slice_get xs c.args.k) 
 pub returns : goal.returns
 returns c =
     let h = c.args.self.now in
-    let e = into_tried h c.args.place (omega arith) _ _ _ _ c.lane-back.ensures c.lane-back-2.ensures c.lane-back-3.ensures c.lane-back-4.ensures in
+    let e = into_tried h c.args.place (omega arith) _ _ _ _ c.lane_back.ensures c.lane_back-2.ensures c.lane_back-3.ensures c.lane_back-4.ensures in
     c.pick.ensures ∙ sym (ap (λ (xs : List ℕ). slice_get xs c.args.k) e)

@@ -9,5 +9,5 @@ returns-then-place-size c = sym (ap (λ (xs : List ℕ). slice_get xs c.args.k) 
 pub returns : goal.returns
 returns c =
     let h = c.args.self.now in
-    let e = out_tried h c.args.place (omega arith) _ _ _ _ c.lane-towards.ensures c.lane-towards-2.ensures c.lane-towards-3.ensures c.lane-towards-4.ensures in
+    let e = out_tried h c.args.place (omega arith) _ _ _ _ c.lane_towards.ensures c.lane_towards-2.ensures c.lane_towards-3.ensures c.lane_towards-4.ensures in
     c.pick.ensures ∙ sym (ap (λ (xs : List ℕ). slice_get xs c.args.k) e)

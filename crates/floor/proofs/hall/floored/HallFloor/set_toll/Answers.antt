@@ -16,18 +16,18 @@ returns-then-spot-size c =
     let f = set_refused seconds_kind (hall_meaning h) c.args.spot c.args.toll UnknownSpot e in
     record { answer = sym e; floor = f.0; only = f.1 }
 
-pub returns-then-not-at-most : goal.returns-then-not-at-most
-returns-then-not-at-most c =
+pub returns-then-not-at_most : goal.returns-then-not-at_most
+returns-then-not-at_most c =
     let h = c.args.self.now in
-    let low : seconds_kind.le h.least c.args.toll ≡ false = sym c.at-most.ensures ∙ c.if-not-at-most.true in
+    let low : seconds_kind.le h.least c.args.toll ≡ false = sym c.at_most.ensures ∙ c.if-not-at_most.true in
     let e = ap (λ o. answer_at seconds_kind o c.args.toll) (spot_at h.rows h.columns h.least h.cells.tolls h.full h.few c.args.spot (omega arith)) ∙ ap if_enough low in
     let f = set_refused seconds_kind (hall_meaning h) c.args.spot c.args.toll BelowLeast e in
     record { answer = sym e; floor = f.0; only = f.1 }
 
-pub invariant-of-self : goal.invariant-of-self
-invariant-of-self c =
+pub invariant_of-self : goal.invariant_of-self
+invariant_of-self c =
     let h = c.args.self.now in
-    let high : h.least.value ≤ c.args.toll.value = leb-true _ _ (sym c.at-most.ensures ∙ c.if-not-at-most.false) in
+    let high : h.least.value ≤ c.args.toll.value = leb-true _ _ (sym c.at_most.ensures ∙ c.if-not-at_most.false) in
     let e = c.store.ensures in (
       h.tall,
       (
@@ -49,7 +49,7 @@ invariant-of-self c =
 pub returns : goal.returns
 returns c =
     let h = c.args.self.now in
-    let high : seconds_kind.le h.least c.args.toll ≡ true = sym c.at-most.ensures ∙ c.if-not-at-most.false in
+    let high : seconds_kind.le h.least c.args.toll ≡ true = sym c.at_most.ensures ∙ c.if-not-at_most.false in
     let e = ap (λ o. answer_at seconds_kind o c.args.toll) (spot_at h.rows h.columns h.least h.cells.tolls h.full h.few c.args.spot (omega arith)) ∙ ap if_enough high in
     let m = ap (λ ts. grid_meaning h.rows h.columns h.least (map seconds (take (h.rows * h.columns) ts))) (c.store.ensures ∙ ap (set h.cells.tolls c.args.spot) c.value.ensures)
     ∙ stored_meaning h.rows h.columns h.least h.cells.tolls c.args.spot c.args.toll h.full h.few (omega arith) in

@@ -3,4 +3,4 @@ use Rattle.lanes.proofs.plan.floored.LanePlanFloor.lane_into.Goals as goal
 
 pub returns : goal.returns
 unfolding lanes_by
-returns g c = c.lane-at.ensures
+returns g c = c.lane_at.ensures
