@@ -17,23 +17,14 @@ pub invariant_of-result : goal.invariant_of-result
 invariant_of-result c =
     let f = factors c.args.rows c.args.columns (omega arith) in
     let fits : c.args.rows * c.args.columns ≤ 1024 = omega arith in
-    let e = c.filled.ensures in (
-      f.left,
-      (
-        f.right,
-        (
-          fits,
-          (
-            ap length e ∙ length-replicate 1024 c.value.result,
-            (
-              (λ k h.
-                  let q : get_or c.filled.result.tolls k 0 ≡ c.value.result = ap (λ ts. get_or ts k 0) e ∙ get_or-replicate 1024 k c.value.result 0 (omega arith) in omega arith),
-              tt,
-            ),
-          ),
-        ),
-      ),
-    )
+    let e = c.filled.ensures in
+    record {
+      tall = f.left;
+      wide = f.right;
+      few = fits;
+      full = ap length e ∙ length-replicate 1024 c.value.result;
+      above = λ k h. let q : get_or c.filled.result.tolls k 0 ≡ c.value.result = ap (λ ts. get_or ts k 0) e ∙ get_or-replicate 1024 k c.value.result 0 (omega arith) in omega arith;
+    }
 
 pub returns : goal.returns
 returns c =

@@ -28,23 +28,14 @@ pub invariant_of-self : goal.invariant_of-self
 invariant_of-self c =
     let h = c.args.self.now in
     let high : h.least.value ≤ c.args.toll.value = leb-true _ _ (sym c.at_most.ensures ∙ c.if-not-at_most.false) in
-    let e = c.store.ensures in (
-      h.tall,
-      (
-        h.wide,
-        (
-          h.few,
-          (
-            ap length e ∙ length-set h.cells.tolls c.args.spot c.value.result ∙ h.full,
-            (
-              (λ k b.
-                  subst (λ ts. h.least.value ≤ get_or ts k 0) (sym e) (stored_above h.cells.tolls c.args.spot k c.value.result h.least.value (omega arith) (h.above k b))),
-              tt,
-            ),
-          ),
-        ),
-      ),
-    )
+    let e = c.store.ensures in
+    record {
+      tall = h.tall;
+      wide = h.wide;
+      few = h.few;
+      full = ap length e ∙ length-set h.cells.tolls c.args.spot c.value.result ∙ h.full;
+      above = λ k b. subst (λ ts. h.least.value ≤ get_or ts k 0) (sym e) (stored_above h.cells.tolls c.args.spot k c.value.result h.least.value (omega arith) (h.above k b));
+    }
 
 pub returns : goal.returns
 returns c =
