@@ -3,7 +3,7 @@ use Rattle.std.proofs.lemmas.List.{at_drop_all}
 use Rattle.lanes.specs.Records.{all_fair}
 use Rattle.lanes.proofs.RecordFacts.{behind, unplaced_here, twice_here, fair_here}
 use Rattle.lanes.proofs.plan.read.all_fair.Goals as goal
-use Rattle.lanes.proofs.plan.read.all_fair.Goals.{then-not-is_placed-via-then-not-is_placed, then-not-is-placed-via-else-not-is-placed+then-has-ends}
+use Rattle.lanes.proofs.plan.read.all_fair.Goals.{then-not-is_placed-via-then-not-is_placed, then-not-is_placed-via-else-not-is_placed+then-has_ends}
 
 pub returns-then-not-is_placed : goal.returns-then-not-is_placed
 returns-then-not-is_placed g c =
@@ -11,7 +11,7 @@ returns-then-not-is_placed g c =
     elim c.then-not-is_placed.branch [
       | then-not-is_placed-via-then-not-is_placed w ↦
           unplaced_here rs i x h c.index-lanes-i.is c.args.places (sym c.is_placed.ensures ∙ w.if-not-is_placed.true) ∙ c.loop-i.invariant
-      | then-not-is-placed-via-else-not-is-placed+then-has-ends w ↦
+      | then-not-is_placed-via-else-not-is_placed+then-has_ends w ↦
           twice_here rs i x h c.index-lanes-i.is c.args.places (sym c.is_placed.ensures ∙ w.if-not-is_placed.false) (behind rs i x h c.index-lanes-i.is _ _ w.has_ends.ensures w.if-has_ends.true) ∙ c.loop-i.invariant
     ]
 

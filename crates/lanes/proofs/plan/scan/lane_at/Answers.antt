@@ -6,7 +6,7 @@ use Rattle.floor.specs.Meaning.{has}
 use Rattle.lanes.specs.Plans.{lane_of, lane_end}
 use Rattle.lanes.proofs.ScanFacts.{scan_found, scan_past, scan_no, scan_end, at_record}
 use Rattle.lanes.proofs.plan.scan.lane_at.Goals as goal
-use Rattle.lanes.proofs.plan.scan.lane_at.Goals.{then-end-of-place+else-left-eq0, else-end_of-place}
+use Rattle.lanes.proofs.plan.scan.lane_at.Goals.{then-end_of-place+else-left-eq0, else-end_of-place}
 
 pub returns-then-left-eq0 : goal.returns-then-left-eq0
 returns-then-left-eq0 g c =
@@ -20,7 +20,7 @@ loop-i-preserved g c =
     let f : ℕ → Bool = λ m. has (lane_end e) p (lane_of rs m) in
     let test = at_record rs e p i c.index-lanes-i.result h c.index-lanes-i.is ∙ ap (λ (n : ℕ). eqb n p) (sym c.end_of.ensures) in
     elim c.if-end_of-place.branch [
-      | then-end-of-place+else-left-eq0 w ↦
+      | then-end_of-place+else-left-eq0 w ↦
           ap (slice_get (passing f (i + 1) (length rs - (i + 1)))) w.left-is
           ∙ scan_past f (length rs) c.args.k i c.loop-i.left h (test ∙ eq-eqb _ p w.if-end_of-place.true) w.if-left-eq0.false c.loop-i.invariant
       | else-end_of-place w ↦

@@ -10,14 +10,14 @@ use Rattle.lanes.proofs.plan.floored.LanePlanFloor.set_toll.Goals as goal
 
 pub returns-then-spot-self : goal.returns-then-spot-self
 returns-then-spot-self g c =
-    let p = c.args.self.now in let A = g.row.T-Toll.tolls in
+    let p = c.args.self.now in let A = g.T.Toll.tolls in
     let e = ap (λ o. answer_at A o c.args.toll) (spot_past A p.places p.lanes.now c.args.spot c.if-spot-self.true) in
     let f = set_refused A (plan_meaning A p) c.args.spot c.args.toll UnknownSpot e in
     record { answer = sym e; floor = f.0; only = f.1; lanes = sym (retolled_past p.lanes.now c.args.spot c.args.toll c.if-spot-self.true); lender = refl }
 
 pub returns : goal.returns
 returns g c =
-    let p = c.args.self.now in let A = g.row.T-Toll.tolls in let rs = p.lanes.now in let k = c.args.spot in let t = c.args.toll in
+    let p = c.args.self.now in let A = g.T.Toll.tolls in let rs = p.lanes.now in let k = c.args.spot in let t = c.args.toll in
     let b = nth_below rs k c.if-spot-self.false in
     let there = spot_at A p.places rs k ∙ ap (option_map (spot_of A)) b.1 in
     let e = ap (λ o. answer_at A o t) there ∙ ap if_enough (g.met.T.Toll.lawful.least t) in
