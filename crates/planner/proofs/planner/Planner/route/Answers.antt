@@ -11,8 +11,9 @@ returns g c =
       state = e.state;
       buffer = e.buffer;
       slip = e.slip;
+      carrier = e.carrier;
       held = e.held;
       laws = route_laws g.met.T.Toll.lawful c.laws_hold.ensures (state_of c.args.self.now) c.args.slip.place c.args.way.now;
-      expanded = λ t. route_expanded_as g.met.T.Toll.lawful (g.F.Floor.meaning c.args.floor.now) c.args.self.now c.args.slip.place c.args.way.now c.route_by_rules.new.self c.laws_hold.ensures t e.answer e.slip e.state e.buffer;
-      promise = route_keeps g.met.T.Toll.lawful (g.F.Floor.meaning c.args.floor.now) c.args.self.now c.args.slip.place c.args.way.now c.route_by_rules.new.self e.answer e.slip e.state e.buffer;
+      expanded = λ t. route_expanded_as g.met.T.Toll.lawful (g.F.Floor.meaning c.args.floor.now) c.args.self.now c.args.slip.place c.args.way.now c.route_by_rules.new.self c.laws_hold.ensures t e.answer e.carrier e.state e.buffer;
+      promise = route_keeps g.met.T.Toll.lawful (g.F.Floor.meaning c.args.floor.now) c.args.self.now c.args.slip.place c.args.way.now c.route_by_rules.new.self e.answer e.carrier e.state e.buffer;
     }

@@ -14,7 +14,7 @@ returns-then-places-size g c =
     let S = state_of c.args.self.now in
     let other : m.places ≡ length S.tree → ⊥ = λ e. c.if-places-size.true (c.places.ensures ∙ e ∙ sym c.size-size.ensures) in
     let e = ap (route_by g.T.Toll.tolls m S c.args.slip.place c.args.way.now) (sym (route_elsewhere (length S.tree) m.places (length c.args.way.now) c.args.slip.place other)) in
-    record { answer = ap (λ r. r.answer) e; state = ap (λ r. r.state) e; buffer = ap (λ r. r.buffer) e; slip = ap (λ r. slip_by (λ a. under_way_at c.args.slip.place) (parked_at c.args.slip.place) r.answer) e; held = record { places = refl; behind = refl; lender = refl } }
+    record { answer = ap (λ r. r.answer) e; state = ap (λ r. r.state) e; buffer = ap (λ r. r.buffer) e; slip = refl; carrier = ap (λ r. slip_by (λ a. under_way_at c.args.slip.place) (parked_at c.args.slip.place) r.answer) e; held = record { places = refl; behind = refl; lender = refl } }
 
 pub returns : goal.returns
 returns g c =
@@ -28,6 +28,7 @@ returns g c =
       answer = route_answer_lem A m p.table.now p.places p.target p.tally c.args.slip.place c.args.way.now size (size - 0) c.size-size.ensures k f (omega arith) (omega arith) (c.hand_over.ensures.answer ∙ c.plan-count.ensures.answer);
       state = route_state A m p.table.now p.places p.target p.tally c.args.slip.place c.args.way.now size (size - 0) c.size-size.ensures k f (omega arith) (omega arith) c.plan-count.new.table c.plan-count.auto.table c.plan-count.ensures.table c.plan-count.ensures.count c.saturating_add-self.ensures;
       buffer = route_buffer A m p.table.now p.places p.target p.tally c.args.slip.place c.args.way.now size (size - 0) c.size-size.ensures k f (omega arith) (omega arith) c.plan-count.ensures.buffer;
-      slip = c.hand_over.ensures.slip ∙ ap (slip_by (λ a. under_way_at c.args.slip.place) (parked_at c.args.slip.place)) (route_answer_lem A m p.table.now p.places p.target p.tally c.args.slip.place c.args.way.now size (size - 0) c.size-size.ensures k f (omega arith) (omega arith) c.plan-count.ensures.answer);
+      slip = c.hand_over.ensures.slip;
+      carrier = c.hand_over.ensures.carrier ∙ ap (slip_by (λ a. under_way_at c.args.slip.place) (parked_at c.args.slip.place)) (route_answer_lem A m p.table.now p.places p.target p.tally c.args.slip.place c.args.way.now size (size - 0) c.size-size.ensures k f (omega arith) (omega arith) c.plan-count.ensures.answer);
       held = record { places = refl; behind = route_behind A m p.table.now p.places p.target p.tally c.args.slip.place c.args.way.now size (size - 0) c.size-size.ensures k f (omega arith) (omega arith) c.plan-count.new.table c.plan-count.auto.table; lender = refl };
     }
