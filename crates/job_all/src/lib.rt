@@ -5,7 +5,7 @@ mod opening;
 mod serve;
 mod standing;
 
-pub use job_all::run_job;
+pub use job::run_job;
 pub use opening::{Opening, open_line};
 pub use serve::serve_line;
 pub use standing::Standing;
