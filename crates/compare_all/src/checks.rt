@@ -4,7 +4,7 @@ use super::marks::Marks;
 use super::model::Standing;
 use super::picture::{Picture, same, smaller};
 use super::relaxation::{Settled, settle};
-use super::tree::{PLACES, Tree, alike, same_if_any};
+use super::readings::{PLACES, Tree, alike, same_if_any};
 use floor::Floor;
 use planner::{Answer, Call, Carrier};
 use toll::{Refusal, Toll};

@@ -11,7 +11,7 @@ use super::model::{Model, Standing};
 use super::picture::Picture;
 use super::random::Random;
 use super::relaxation::Settled;
-use super::tree::{PLACES, Tree};
+use super::readings::{PLACES, Tree};
 use floor::Floor;
 use planner::{Answer, Call, Carrier, Planner, Record};
 use toll::Toll;

@@ -15,9 +15,9 @@ mod picture;
 mod plans;
 mod random;
 mod relaxation;
-mod tree;
+mod readings;
 
-use compare_all::Score;
+use compare::Score;
 use halls::{compare_halls, run_hall_lists};
 use ledger::{Checks, Ledger};
 use plans::{compare_plans, run_lists_in_gates, run_lists_in_seconds};

@@ -1,4 +1,4 @@
-use super::tree::PLACES;
+use super::readings::PLACES;
 
 /// A set of places.
 #[derive(Clone, Copy)]

@@ -1,7 +1,7 @@
 //! The rules of the calls, told plainly over a picture of the floor and small arrays: what each call answers and leaves behind.
 use super::marks::Marks;
 use super::picture::{LANES, Lane, Picture, same, smaller};
-use super::tree::{Entry, PLACES, Tree};
+use super::readings::{Entry, PLACES, Tree};
 use floor::Floor;
 use planner::{Answer, Call, Reading, Route};
 use toll::{Refusal, Toll};

@@ -11,7 +11,7 @@ use Rattle.floor.specs.Setting.{answer_at, if_enough, set_answer}
 use Rattle.floor.specs.Grid.{hall_size}
 use Rattle.tree.specs.Ways.{next_step, borne_out}
 use Rattle.astar.specs.Search.{Searched, seek}
-use Rattle.planner.specs.Calls.{State, read_answer, way_answer, runAnswer, route_by, change_by, put_answer, step_to, step_answer}
+use Rattle.planner.specs.Calls.{State, read_answer, way_answer, search_answer, route_by, change_by, put_answer, step_to, step_answer}
 use Rattle.planner.specs.Served.{World, answer_by, served_with}
 use Rattle.planner.specs.Reachable.{Start}
 use Rattle.astar.specs.declared.outcome.Outcome.{Outcome}
@@ -122,7 +122,7 @@ fine_way : (count : ℕ) (o : Option (List ℕ × Seconds)) → Fine (way_answer
 fine_way count None = λ e. (let z : ◌≡◌ {A = ℕ} 0 1 = cc in omega arith)
 fine_way count (Some p) = tt
 
-fine_search : (m : Meaning Seconds) (t s : ℕ) (r : Searched Seconds) (o : Outcome) → Fine (runAnswer seconds_kind m t s r o)
+fine_search : (m : Meaning Seconds) (t s : ℕ) (r : Searched Seconds) (o : Outcome) → Fine (search_answer seconds_kind m t s r o)
 fine_search m t s r Solved = fine_way (length r.expanded) (borne_out seconds_kind m r.tree t s)
 fine_search m t s r outcome.NoWay = λ e. (let z : ◌≡◌ {A = ℕ} 0 1 = cc in omega arith)
 
