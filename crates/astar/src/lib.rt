@@ -1,4 +1,6 @@
 //! An inner layer of the planner: A* over the table's tree. Its functions take a table as it is, and some ask something of their caller.
+#![tactic(auto)]
+
 pub mod expand;
 mod key;
 mod outcome;

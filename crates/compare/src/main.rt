@@ -1,4 +1,6 @@
 //! Compares the planner's routes with plain relaxation to a fixpoint, on floors made by a small generator with a fixed seed.
+#![tactic(auto)]
+
 mod compare;
 mod halls;
 mod plans;

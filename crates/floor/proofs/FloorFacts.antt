@@ -1,11 +1,11 @@
 -- What holds on every floor whose lane numbers are bounded: its lists of lanes, and setting.
-use Rattle.std.proofs.Common.{◌≡◌, ℕ, zero, suc, ◌<◌, ◌≤◌, Bool, true, false, cond, List, [], ◌∷◌, map, length, take, set, is_ok, Some, None, Ok, Err, Option, Result, sym, refl, ap, ◌∙◌, subst, inl, arith}
+use Rattle.std.proofs.Common.{◌≡◌, ℕ, zero, suc, ◌<◌, ◌≤◌, Bool, true, false, cond, List, [], ◌∷◌, map, length, take, set, is_ok, Some, None, Ok, Err, Option, sym, refl, ap, ◌∙◌, subst, inl, arith}
 use Rattle.std.specs.Option.{option_map}
 use Rattle.std.specs.List.{slice_get}
 use Rattle.std.proofs.lemmas.Bool.Decides.{nat_tests}
 use Rattle.toll.specs.declared.refusal.Refusal.{Refusal}
 use Rattle.toll.specs.Tolls.{Tolls}
-use Rattle.floor.specs.Rising.{In, passing}
+use Rattle.floor.specs.Rising.{In}
 use Rattle.floor.specs.Meaning.{Lane, Spot, Meaning, has, lanes_by}
 use Rattle.floor.specs.FloorLaws.{Listed}
 use Rattle.floor.specs.Setting.{if_enough, answer_at, set_answer, with_toll, set_meaning, OnlyToll}

@@ -1,14 +1,14 @@
 -- The lanes out of a cell and into a cell of a hall: the four that the code tries, in its order.
-use Rattle.std.proofs.Common.{◌≡◌, ℕ, zero, suc, ◌+◌, ◌-◌, ◌*◌, ◌/◌, ◌%◌, ◌<◌, ◌≤◌, Bool, true, false, cond, ltb, ◌⊎◌, List, [], ◌∷◌, is_some, Some, None, Option, sym, refl, ap, ◌∙◌, subst, inl, inr, ⊎_elim, mod-lt, arith}
+use Rattle.std.proofs.Common.{◌≡◌, ℕ, ◌+◌, ◌-◌, ◌*◌, ◌/◌, ◌%◌, ◌<◌, ◌≤◌, Bool, true, false, cond, ltb, ◌⊎◌, List, [], ◌∷◌, is_some, Some, None, Option, sym, refl, ap, ◌∙◌, subst, inl, inr, ⊎_elim, mod-lt, arith}
 use native.Mathlib.Nat.{mod-le}
 use Rattle.std.specs.Option.{option_map}
 use Rattle.std.proofs.lemmas.Bool.{cases_eq}
 use Rattle.std.proofs.lemmas.Bool.Decides.{nat_tests}
 use Rattle.floor.specs.Rising.{Rises, In, passing, present}
 use Rattle.floor.specs.Meaning.{Lane, has}
-use Rattle.floor.specs.Grid.{next, grid_lane}
+use Rattle.floor.specs.Grid.{grid_lane}
 use Rattle.floor.proofs.RisingFacts.{same_rising, passing_rises, in_passing, passing_in}
-use Rattle.floor.proofs.GridFacts.{Goes, goes, goes_below, some_columns, right_mod, right_below, left_mod, hop, hops, lane_to, lane_hops, next_hop}
+use Rattle.floor.proofs.GridFacts.{Goes, goes, goes_below, some_columns, right_mod, right_below, left_mod, hop, hops, lane_to, lane_hops}
 
 -- options in a row, and the numbers that are there
 abbrev Above : ℕ → List (Option ℕ) → Type 0

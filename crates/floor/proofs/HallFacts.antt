@@ -11,7 +11,7 @@ use Rattle.toll.specs.SecondsKind.{seconds, seconds_kind}
 use Rattle.toll.specs.Tolls.{Le}
 use Rattle.toll.specs.SecondsLaws.{seconds_same, seconds_value}
 use Rattle.floor.specs.FloorLaws.{FloorLaws}
-use Rattle.floor.specs.Meaning.{Spot, Meaning, lanes_by, out_of, into, of_spot}
+use Rattle.floor.specs.Meaning.{Spot, lanes_by, out_of, into, of_spot}
 use Rattle.floor.specs.Setting.{with_toll}
 use Rattle.floor.specs.Grid.{hall_size, next, repeated, grid_lane, grid_estimate, grid_meaning, hall_meaning}
 use Rattle.floor.specs.Rising.{present}

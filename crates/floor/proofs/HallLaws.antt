@@ -1,5 +1,5 @@
 -- Every hall is a lawful floor.
-use Rattle.std.proofs.Common.{◌≡◌, ℕ, zero, suc, ◌+◌, ◌-◌, ◌*◌, ◌/◌, ◌%◌, ◌<◌, ◌≤◌, Bool, true, false, ◌&&◌, ltb, List, [], ◌∷◌, map, length, is_some, Some, None, Option, sym, refl, ap, ◌∙◌, subst, ⊎_elim, add-one, arith}
+use Rattle.std.proofs.Common.{◌≡◌, ℕ, zero, suc, ◌+◌, ◌-◌, ◌*◌, ◌/◌, ◌<◌, ◌≤◌, Bool, true, false, ◌&&◌, ltb, List, length, Some, None, Option, sym, refl, ap, ◌∙◌, subst, ⊎_elim, add-one, arith}
 use native.Mathlib.Nat.{add-div_right, add-mod_right}
 use Rattle.std.specs.Option.{option_map}
 use Rattle.std.specs.List.{slice_get}
@@ -10,10 +10,10 @@ use Rattle.toll.specs.Tolls.{Tolls, TollLaws, Le}
 use Rattle.toll.specs.SecondsKind.{seconds_kind}
 use Rattle.toll.specs.declared.seconds.Seconds.{Seconds}
 use Rattle.toll.specs.SecondsLaws.{seconds_lawful}
-use Rattle.floor.specs.Meaning.{Lane, Spot, Meaning, then, lane_toll}
+use Rattle.floor.specs.Meaning.{Lane, Spot, then, lane_toll}
 use Rattle.floor.specs.FloorLaws.{FloorLaws}
 use Rattle.floor.specs.Grid.{given, away, repeated, grid_lane, grid_estimate, grid_meaning}
-use Rattle.floor.proofs.GridFacts.{Goes, goes, goes_below, goes_single, goes_apart, some_columns, right_mod, left_mod, lane_to}
+use Rattle.floor.proofs.GridFacts.{Goes, goes, goes_below, goes_single, goes_apart, some_columns, right_mod, left_mod}
 use Rattle.floor.proofs.GridLanes.{lane_enters}
 use Rattle.floor.proofs.FloorFacts.{listed, none_in, nth_map}
 

@@ -1,5 +1,5 @@
 -- What every floor owes: the laws of its meaning.
-use Rattle.std.specs.Prelude.{◌≡◌, ℕ, ◌<◌, ◌≤◌, true, List, [], length, is_some, Some, None, ◌≢◌}
+use Rattle.std.specs.Prelude.{◌≡◌, ℕ, ◌<◌, ◌≤◌, true, List, [], length, is_some, Some, ◌≢◌}
 use Rattle.std.specs.List.{slice_get}
 use Rattle.toll.specs.Tolls.{Tolls, Le}
 use Rattle.floor.specs.Rising.{Rises, In}

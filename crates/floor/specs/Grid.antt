@@ -4,12 +4,12 @@
 -- grid_lane, grid_estimate         the lanes and the estimate of a hall
 -- grid_meaning                    a hall as a floor; hall_meaning is that of the code's hall
 -- hall_size                       whether a hall of that size can be made
-use Rattle.std.specs.Prelude.{◌≡◌, ℕ, zero, suc, ◌+◌, ◌-◌, ◌*◌, ◌/◌, ◌%◌, Bool, cond, ◌&&◌, List, map, take, Some, None, Option, ◌==◌, nat_le, nat_lt}
+use Rattle.std.specs.Prelude.{ℕ, zero, suc, ◌+◌, ◌-◌, ◌*◌, ◌/◌, ◌%◌, Bool, cond, ◌&&◌, List, map, take, Some, None, Option, ◌==◌, nat_le, nat_lt}
 use Rattle.std.specs.Option.{option_map}
 use Rattle.toll.specs.Tolls.{Tolls}
 use Rattle.toll.specs.SecondsKind.{seconds, seconds_kind}
 use Rattle.toll.specs.declared.seconds.Seconds.{Seconds}
-use Rattle.floor.specs.Meaning.{Lane, Spot, Meaning}
+use Rattle.floor.specs.Meaning.{Lane, Meaning}
 use Rattle.floor.specs.declared.hall.Hall.{Hall}
 
 -- the number of the cell in row r and column k

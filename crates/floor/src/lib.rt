@@ -1,5 +1,7 @@
 //! Floors: places, lanes between them, spots with tolls. The trait `Floor` says what every floor
 //! owes; `Hall` is a floor of cells in rows and columns.
+#![tactic(auto)]
+
 mod cells;
 mod floor;
 mod hall;

@@ -1,5 +1,5 @@
 -- The loops over the lines of a job.
-use Rattle.std.proofs.Common.{◌≡◌, ℕ, ◌<◌, ◌≤◌, List, [], ◌∷◌, ◌++◌, length, Some, None, Ok, Err, Option, Result, sym, refl, ap, ◌∙◌, subst, append_assoc, append-nil, arith}
+use Rattle.std.proofs.Common.{◌≡◌, ℕ, ◌≤◌, List, ◌∷◌, ◌++◌, length, Some, None, Ok, Err, Result, sym, ap, ◌∙◌, append_assoc, append-nil, arith}
 use Rattle.std.proofs.lemmas.List.{nil_from_length}
 use Rattle.toll.specs.SecondsKind.{seconds_kind}
 use Rattle.toll.specs.declared.seconds.Seconds.{Seconds}
@@ -8,7 +8,7 @@ use Rattle.floor.specs.Meaning.{Meaning}
 use Rattle.planner.specs.Calls.{State, set_up_answer, set_up_state}
 use Rattle.jobtext.specs.Lines.{lines}
 use Rattle.job.specs.declared.opening.Opening.{Opening}
-use Rattle.job.specs.Jobs.{Start, start_of, Slip, parked, Served, served_text, running_text, opened_text, opening_line, found_by, continued, lines_text}
+use Rattle.job.specs.Jobs.{Start, start_of, Slip, parked, served_text, running_text, opened_text, opening_line, found_by, continued, lines_text}
 
 -- what was printed, and what the rest of the lines will print, make the whole
 pub record Serving (m : Meaning Seconds) (S : State Seconds) (c : Slip) (out left whole : List ℕ) : Type 0 where

@@ -1,5 +1,5 @@
 -- Which lines are served: first the form of a line is looked at, then whether its letter is allowed where the job stands.
-use Rattle.std.specs.Prelude.{ℕ, Bool, true, false, cond, ◌||◌, Some, None, Ok, Err, Option, Result, ◌==◌}
+use Rattle.std.specs.Prelude.{ℕ, Bool, cond, ◌||◌, Some, None, Ok, Err, Option, Result, ◌==◌}
 use Rattle.toll.specs.declared.refusal.Refusal.{Refusal}
 use Rattle.toll.specs.declared.refusal.Refusal.TheVariants.{BadLine, NotNow}
 use Rattle.jobtext.specs.LineTexts.{letter}

@@ -32,7 +32,10 @@ fn standing(carrier: &Carrier) -> Standing
 }
 
 /// Adds the answer line of a reading: the toll and the next place, or `-` for none.
-fn write_reading(out: &mut String, answer: Result<Reading<Seconds>, Refusal>) -> Result<(), AllocError>
+fn write_reading(
+    out: &mut String,
+    answer: Result<Reading<Seconds>, Refusal>,
+) -> Result<(), AllocError>
     ensures { OnOk result (string_bytes out.new ≡ string_bytes out.old ++ reading_line answer) }
 {
     match answer {

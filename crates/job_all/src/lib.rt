@@ -1,4 +1,6 @@
 //! A job: lines of text that set a hall up and drive the planner on it, each answered by one line.
+#![tactic(auto)]
+
 mod decide;
 mod job;
 mod opening;

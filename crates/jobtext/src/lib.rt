@@ -1,4 +1,6 @@
 //! The text of a job: its lines are read, and its answers written.
+#![tactic(auto)]
+
 pub mod cut;
 pub mod line;
 pub mod lines;

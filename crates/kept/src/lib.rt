@@ -1,4 +1,6 @@
 //! The promise at work: on a fixed list of calls with no premise at all, and part by part.
+#![tactic(auto)]
+
 mod calls;
 mod parts;
 

@@ -1,4 +1,6 @@
 //! Lane plans: floors that are told by a list of lane records, which the caller lends.
+#![tactic(auto)]
+
 mod plan;
 mod record;
 

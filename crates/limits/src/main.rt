@@ -1,4 +1,6 @@
 //! The listed hall of two rows and three columns at its limits: buffers, places and tolls that are just within and just outside.
+#![tactic(auto)]
+
 use floor::Hall;
 use planner::{Parked, Planner, Record};
 use toll::{Refusal, Seconds};

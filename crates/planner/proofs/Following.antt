@@ -1,5 +1,5 @@
 -- The answer of a route, and the recorded way that it writes.
-use Rattle.std.proofs.Common.{◌≡◌, ℕ, suc, ◌+◌, ◌-◌, List, ◌++◌, length, drop, Some, Ok, sym, ap, ◌∙◌, add-one}
+use Rattle.std.proofs.Common.{◌≡◌, ℕ, suc, ◌+◌, List, ◌++◌, length, drop, Some, Ok, sym, ap, ◌∙◌, add-one}
 use Rattle.std.specs.Option.{option_map}
 use Rattle.toll.specs.Tolls.{Tolls}
 use Rattle.floor.specs.Meaning.{Meaning}

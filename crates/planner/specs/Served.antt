@@ -14,7 +14,6 @@ use Rattle.planner.specs.Calls.{State, state_of, read_answer, Routed, routed, Ch
 use Rattle.planner.specs.declared.answers.Answer.{Answer}
 use Rattle.planner.specs.declared.answers.Answer.TheVariants.{Refused, Done, Place}
 use Rattle.planner.specs.declared.answers.Answer.TheVariants as answer
-use Rattle.planner.specs.declared.answers.Route.{Route}
 use Rattle.planner.specs.declared.answers.Reading.{Reading}
 use Rattle.planner.specs.declared.call.Call.{Call}
 use Rattle.planner.specs.declared.call.Call.TheVariants.{Change, Put, Step, Halt, Read, Tally}

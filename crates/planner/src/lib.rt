@@ -1,4 +1,6 @@
 //! The planner of one carrier: the table that it is lent, and the calls.
+#![tactic(auto)]
+
 mod answers;
 mod call;
 mod carrier;

@@ -1,3 +1,5 @@
+#![tactic(auto)]
+
 use job::run_job;
 use std::io::Read;
 

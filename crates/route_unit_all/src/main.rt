@@ -1,3 +1,5 @@
+#![tactic(auto)]
+
 use job_all::{Opening, open_line, run_job, serve_line};
 use jobtext::lines::first_line;
 use planner::{Carrier, Planner, Record};

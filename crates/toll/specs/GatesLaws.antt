@@ -1,13 +1,13 @@
 -- Gates are a lawful kind of toll.
-use Rattle.std.specs.Prelude.{◌≡◌, ℕ, suc, ◌+◌, ◌<◌, ◌≤◌, min, true, false, ◌⊎◌, refl}
-use Rattle.std.proofs.Common.{ap, inl, inr, ⊎_elim, arith}
+use Rattle.std.specs.Prelude.{◌≡◌, suc, ◌+◌, ◌<◌, ◌≤◌, min, ◌⊎◌, refl}
+use Rattle.std.proofs.Common.{inl, inr, ⊎_elim, arith}
 use mathlib.Core.HLevel.{is_prop→PathP, Π_prop}
 use Rattle.std.proofs.Math.Bridge.{le_prop}
 use Rattle.std.proofs.Math.Nat.{ℕ_set}
 use Rattle.std.proofs.lemmas.Bool.Decides.{nat_tests}
 use Rattle.std.proofs.lemmas.Bool.{cases_lt}
 use Rattle.toll.specs.Tolls.{Le, Lt, TollLaws}
-use Rattle.toll.specs.GatesKind.{beside, beside_cases, gates_of, gates_kind}
+use Rattle.toll.specs.GatesKind.{beside_cases, gates_kind}
 use Rattle.toll.specs.declared.gates.Gates.{Gates}
 
 pub gates_same : (a b : Gates) → a.gates ≡ b.gates → a.seconds ≡ b.seconds → a ≡ b

@@ -1,5 +1,7 @@
 //! Tolls: what a carrier pays on its way. The trait `Toll` says what every kind of toll owes,
 //! `Seconds` and `Gates` are the two kinds, and `Refusal` is what a call answers when it says no.
+#![tactic(auto)]
+
 mod gates;
 mod refusal;
 mod seconds;

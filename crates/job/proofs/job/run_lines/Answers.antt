@@ -1,4 +1,4 @@
-use Rattle.std.proofs.Common.{◌≡◌, ℕ, ◌++◌, length, Some, None, string_bytes, sym, ap, ◌∙◌, subst, arith}
+use Rattle.std.proofs.Common.{ℕ, ◌++◌, length, Some, None, string_bytes, ap, ◌∙◌, subst, arith}
 use Rattle.std.proofs.lemmas.Result.{IfOk-weaker}
 use Rattle.toll.specs.SecondsKind.{seconds_kind}
 use Rattle.planner.specs.Calls.{state_of, set_up_answer, set_up_state}

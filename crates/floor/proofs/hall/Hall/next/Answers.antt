@@ -1,4 +1,4 @@
-use Rattle.std.proofs.Common.{sym, ◌∙◌, arith}
+use Rattle.std.proofs.Common.{arith}
 use Rattle.std.proofs.lemmas.Bool.Decides.{nat_tests}
 use Rattle.floor.proofs.GridFacts.{row_fits, next_hop}
 use Rattle.floor.proofs.hall.Hall.next.Goals as goal

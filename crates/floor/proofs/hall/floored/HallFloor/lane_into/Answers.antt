@@ -1,4 +1,4 @@
-use Rattle.std.proofs.Common.{◌≡◌, ℕ, List, sym, ap, ◌∙◌, arith}
+use Rattle.std.proofs.Common.{ℕ, List, sym, ap, ◌∙◌, arith}
 use Rattle.std.specs.List.{slice_get}
 use Rattle.floor.proofs.HallFacts.{into_tried, lawful}
 use Rattle.floor.proofs.hall.floored.HallFloor.lane_into.Goals as goal
