@@ -4,7 +4,7 @@
 pub mod expand;
 mod key;
 mod outcome;
-pub mod run;
+pub mod search;
 
 pub use key::Key;
 pub use outcome::Outcome;

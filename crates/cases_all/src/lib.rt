@@ -1,4 +1,6 @@
 //! The worked cases: one table, proved by one statement.
+#![tactic(auto)]
+
 ghost use Rattle.cases_all.specs.Table.{WorkedCases};
 
 /// Does nothing; its contract says that every row of the table of worked cases holds.

@@ -1,6 +1,8 @@
 //! Compares the planner with programs that share no code with it, on floors made by a small generator with a fixed seed: single
 //! routes with plain relaxation to a fixpoint, and lists of all calls with a model of the rules, with relaxation, and with what
 //! a change drops and a route expands.
+#![tactic(auto)]
+
 mod calls;
 mod checks;
 mod compare;
@@ -14,8 +16,8 @@ mod model;
 mod picture;
 mod plans;
 mod random;
-mod relaxation;
 mod readings;
+mod relaxation;
 
 use compare::Score;
 use halls::{compare_halls, run_hall_lists};

@@ -1,4 +1,6 @@
 //! A whole job by one call of the library, held to its stored output in the gate: the lines at their edges.
+#![tactic(auto)]
+
 use job_all::run_job;
 use std::io::Read;
 

@@ -14,7 +14,7 @@ use crate::answers::Route;
 use crate::call::Call;
 use crate::slips::{Parked, UnderWay};
 use astar::Outcome;
-use astar::run::run;
+use astar::search::search;
 use floor::Floor;
 use toll::{Refusal, Toll};
 use tree::Record;
@@ -60,7 +60,7 @@ fn plan<T: Toll, F: Floor<Toll = T>>(
     ensures buffer { way.new ≡ search_buffer T.Toll.tolls (F.Floor.meaning floor.now) target from way.old (seek T.Toll.tolls (F.Floor.meaning floor.now) from (length table.old) (tree_of table.old)) (seek T.Toll.tolls (F.Floor.meaning floor.now) from (length table.old) (tree_of table.old)).outcome }
 {
     floor.laws_hold();
-    let (outcome, count) = run(table, floor, from);
+    let (outcome, count) = search(table, floor, from);
     match outcome {
         Outcome::Solved => (count, follow(table, floor, target, from, count, way)),
         Outcome::NoWay => (count, Err(Refusal::NoWay)),

@@ -43,7 +43,7 @@ impl<'t, T: Toll> Planner<'t, T> {
         ensures behind { drop result.0.places result.0.table.now ≡ drop result.0.places table.old }
         ensures lender { result.0.table.ghost_name ≡ table.entry.ghost_name }
         ensures slip { result.1.place ≡ place }
-        ensures reachable { set_up_answer (length table.old) (F.Floor.meaning floor.entry.now).places target place ≡ Ok tt → Reachable T.Toll.tolls (record { floor = F.Floor.meaning floor.entry.now; records = length table.old; target = target; place = place }) [] (world_of (F.Floor.meaning floor.entry.now) result.0) }
+        ensures reachable { set_up_answer (length table.old) (F.Floor.meaning floor.now).places target place ≡ Ok tt → Reachable T.Toll.tolls (record { floor = F.Floor.meaning floor.now; records = length table.old; target = target; place = place }) [] (world_of (F.Floor.meaning floor.now) result.0) }
         ensures sound { set_up_answer (length table.old) (F.Floor.meaning floor.now).places target place ≡ Ok tt → Sound T.Toll.tolls (F.Floor.meaning floor.now) target (state_of result.0).tree }
     {
         floor.laws_hold();

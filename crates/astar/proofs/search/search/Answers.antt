@@ -3,7 +3,7 @@ use Rattle.tree.specs.Tree.{tree_of}
 use Rattle.astar.specs.Search.{Searched, seek}
 use Rattle.tree.proofs.Entries.{tree_length}
 use Rattle.astar.proofs.Running.{going_none, going_more, going_few, found, spent, solved_is, turns}
-use Rattle.astar.proofs.run.run.Goals as goal
+use Rattle.astar.proofs.search.search.Goals as goal
 
 pub loop-chosen-init : goal.loop-chosen-init
 loop-chosen-init g c = going_none g.met.T.Toll.lawful c.laws_hold.ensures c.args.from (tree_of c.args.table.now)

@@ -3,7 +3,7 @@ use Rattle.std.specs.Option.{option_map}
 use Rattle.tree.specs.Tree.{tree_of}
 use Rattle.astar.specs.Search.{key, better, best}
 use Rattle.tree.proofs.Entries.{tree_length}
-use Rattle.astar.proofs.run.choose.Goals as goal
+use Rattle.astar.proofs.search.choose.Goals as goal
 
 pub loop-place-preserved : goal.loop-place-preserved
 loop-place-preserved g c =

@@ -78,7 +78,7 @@ fn settles<T: Toll>(key: Option<Key<T>>, chosen: Option<(u16, Key<T>)>) -> bool
 }
 
 /// Expands places until the way from the carrier's place is found or no place is open; answers how it ended, and how many places it expanded.
-pub fn run<T: Toll, F: Floor<Toll = T>>(
+pub fn search<T: Toll, F: Floor<Toll = T>>(
     table: &mut [Record<T>],
     floor: &F,
     from: u16,
