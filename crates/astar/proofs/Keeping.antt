@@ -57,8 +57,8 @@ module _ {T : Type 0} {A : Tolls T} (L : TollLaws A) (m : Meaning T) where
         let n = (chart_of A E).next p in
         let step : Le A (A.join (cost A m p n) ((chart_of A E).g n)) ((chart_of A E).g p) = I.tree p f.0 i in
         let c = lane_there p n ((chart_of A E).g n) (le_lt L step i) in
-        let q-in : InTree A (chart_of A E) q = subst (InTree A (chart_of A E)) (sym f.1) (le_lt L (le_trans L (grows L (cost A m p n) ((chart_of A E).g n)) step) i) in
-        let r = path w q q-in f.2 in
+        let q_in : InTree A (chart_of A E) q = subst (InTree A (chart_of A E)) (sym f.1) (le_lt L (le_trans L (grows L (cost A m p n) ((chart_of A E).g n)) step) i) in
+        let r = path w q q_in f.2 in
         let lane : toll_between m p q ≡ Some c.0 = ap (toll_between m p) f.1 ∙ c.1 in
         record {
           toll = A.join c.0 r.toll;

@@ -1,7 +1,7 @@
--- Runs of A*, as a relation: each place in its turn is the open place with the smallest key.
+-- Runs of the search, as a relation: each place in its turn is the open place with the smallest key.
 -- Once xs                      no place stands twice in xs
 -- Chosen A m s E x             x is the open place with the smallest key seen from s; ties go to the smaller number
--- Expands A m s E xs E'        expanding the places xs, each chosen in its turn while the run is not solved, leads from E to E'
+-- Expands A m s E xs E'        expanding the places xs, each chosen in its turn while the search is not solved, leads from E to E'
 use Rattle.std.specs.Prelude.{◌≡◌, ℕ, ◌<◌, true, false, List, [], ◌∷◌, Some}
 use Rattle.toll.specs.Tolls.{Tolls}
 use Rattle.floor.specs.Rising.{In}

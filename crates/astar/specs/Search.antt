@@ -1,9 +1,9 @@
--- A*: keys, the choice of the next place, its expansion, and the run until it is solved or no place is open.
--- Key, key, key_le              a place's two tolls in the A* order
+-- The search: keys, the choice of the next place, its expansion, and the search until it is solved or no place is open.
+-- Key, key, key_le             a place's two tolls in the search order
 -- choice A m s E               the open place with the smallest key, ties to the smaller number
 -- solved A m s E               the carrier's place is in the tree and no open place has smaller tolls in its key
 -- expand A m x E               the tree after expanding place x
--- seek A m s n E               the run with at most n expansions
+-- seek A m s n E               the search with at most n expansions
 use Rattle.std.specs.Prelude.{ℕ, zero, suc, Bool, true, false, cond, not, ◌&&◌, List, [], ◌∷◌, length, Some, None, Option, slice_set}
 use Rattle.std.specs.Option.{option_map, unwrap_or}
 use Rattle.std.specs.List.{slice_get}
@@ -43,7 +43,7 @@ settles A None c = false
 settles A (Some k) None = true
 settles A (Some k) (Some c) = key_le A k c.1
 
--- the run from s is solved
+-- the search from s is solved
 abbrev pub solved : {T : Type 0} → Tolls T → Meaning T → ℕ → List (Entry T) → Bool
 solved A m s E = settles A (option_map (key A m s s) (toll_at E s)) (choice A m s E)
 
@@ -76,7 +76,7 @@ relax_from A m x (Some g) E = relaxed A m x g (into m x) E
 abbrev pub expand : {T : Type 0} → Tolls T → Meaning T → (x : ℕ) → List (Entry T) → List (Entry T)
 expand A m x E = relax_from A m x (toll_at E x) (close_at E x (slice_get E x))
 
--- how a run ended, the tree it left, and the places that it expanded in their order
+-- how a search ended, the tree it left, and the places that it expanded in their order
 pub record Searched (T : Type 0) : Type 0 where
   pub outcome : Outcome
   pub tree : List (Entry T)
@@ -89,7 +89,7 @@ after x r = record { outcome = r.outcome; tree = r.tree; expanded = x ∷ r.expa
 abbrev pub ended : {T : Type 0} → Outcome → List (Entry T) → Searched T
 ended o E = record { outcome = o; tree = E; expanded = [] }
 
--- the run from s with at most n expansions: stop where it is solved, or where no place is open, else expand the choice
+-- the search from s with at most n expansions: stop where it is solved, or where no place is open, else expand the choice
 abbrev pub seek : {T : Type 0} → Tolls T → Meaning T → ℕ → ℕ → List (Entry T) → Searched T
 seek A m s zero E = cond (solved A m s E) (ended Solved E) (ended NoWay E)
 seek A m s (suc n) E =

@@ -1,6 +1,6 @@
 -- When a tree is sound for the tolls that stand: the invariant that every expansion keeps.
 -- Here shut stands for absence: a place outside the tree has the toll shut, and so has a lane that is not there.
--- Chart, chart_of               the tree as functions of the place
+-- Chart, chart_of              the tree as functions of the place
 -- cost A m u v                 the toll of the lane from u to v
 -- Follows, Climbs              next places lead from p to t, over the places w
 -- SoundChart, Sound A m t E    the invariant

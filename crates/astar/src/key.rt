@@ -4,7 +4,7 @@ ghost use Rattle.astar.specs.Search.{key as key_of, key_le};
 use floor::Floor;
 use toll::Toll;
 
-/// A place's two tolls in the order of A*: by way of the place, and from the place on.
+/// A place's two tolls in the order of the search: by way of the place, and from the place on.
 #[derive(Clone, Copy)]
 pub struct Key<T> {
     far: T,

@@ -1,4 +1,4 @@
-//! An inner layer of the planner: A* over the table's tree. Its functions take a table as it is, and some ask something of their caller.
+//! An inner layer of the planner: the search over the table's tree. Its functions take a table as it is, and some ask something of their caller.
 #![tactic(auto)]
 
 pub mod expand;

@@ -1,4 +1,4 @@
-/// How a run ends.
+/// How a search ends.
 #[derive(Clone, Copy)]
 pub enum Outcome {
     /// The recorded way from the carrier's place is found.

@@ -1,9 +1,9 @@
 -- Halls: cells in rows and columns. Lane 4 × cell + d leaves its cell upwards, to the right, downwards or to the left for d = 0, 1, 2, 3.
 -- cell columns r k               the number of the cell in row r and column k
 -- beside, next                   the cell beside another, by row and column and by number
--- grid_lane, grid_estimate         the lanes and the estimate of a hall
--- grid_meaning                    a hall as a floor; hall_meaning is that of the code's hall
--- hall_size                       whether a hall of that size can be made
+-- grid_lane, grid_estimate       the lanes and the estimate of a hall
+-- grid_meaning                   a hall as a floor; hall_meaning is that of the code's hall
+-- hall_size                      whether a hall of that size can be made
 use Rattle.std.specs.Prelude.{ℕ, zero, suc, ◌+◌, ◌-◌, ◌*◌, ◌/◌, ◌%◌, Bool, cond, ◌&&◌, List, map, take, Some, None, Option, ◌==◌, nat_le, nat_lt}
 use Rattle.std.specs.Option.{option_map}
 use Rattle.toll.specs.Tolls.{Tolls}

@@ -1,7 +1,7 @@
 -- What a floor is: places, lanes between them, spots with their tolls, estimates.
 -- Lane, Spot, Meaning            the nouns
--- lane_toll m l                   the toll of lane l
--- out_of, into, of_spot m p        the numbers of the lanes out of a place, into a place, of a spot
+-- lane_toll m l                  the toll of lane l
+-- out_of, into, of_spot m p      the numbers of the lanes out of a place, into a place, of a spot
 use Rattle.std.specs.Prelude.{ℕ, Bool, false, List, Some, None, Option, ◌==◌}
 use Rattle.std.specs.Option.{option_map}
 use Rattle.std.specs.List.{slice_get}

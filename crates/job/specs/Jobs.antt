@@ -1,8 +1,8 @@
 -- A whole job: what each line answers, and what all lines print.
--- Start, start_of, opened       a floor line that is accepted
--- Slip, slip_of                 where the carrier is, parked or under way
+-- Start, start_of, opened      a floor line that is accepted
+-- Slip, slip_of                where the carrier is, parked or under way
 -- Served, served               one line once there is a floor: the planner and the slip after it, and its answer line
--- job_text                      what a job prints
+-- job_text                     what a job prints
 use Rattle.std.specs.Prelude.{◌≡◌, ℕ, ◌*◌, Bool, cond, List, [], ◌∷◌, ◌++◌, length, take, replicate, Some, None, Ok, Err, Option, Result, nat_lt}
 use Rattle.std.specs.Option.{option_map}
 use Rattle.toll.specs.SecondsKind.{seconds, seconds_kind}

@@ -13,7 +13,7 @@ use floor::{Floor, Hall};
 use jobtext::lines::first_line;
 use jobtext::text::write_ok;
 use planner::{Planner, Record};
-use std::alloc::AllocError;
+use std::fmt;
 use toll::{Refusal, Seconds};
 
 /// Looks at one line while there is no floor, and adds its answer line.
@@ -21,7 +21,7 @@ fn open_line(
     table: &[Record<Seconds>],
     text: &[u8],
     out: &mut String,
-) -> Result<Option<Opening>, AllocError>
+) -> Result<Option<Opening>, fmt::Error>
     ensures opening { IfOk result (λ o. found_by (opened_text (length table.now) text.now) o) }
     ensures text { OnOk result (string_bytes out.new ≡ string_bytes out.old ++ opening_line (opened_text (length table.now) text.now)) }
 {
@@ -50,7 +50,7 @@ fn serve_all(
     carrier: Carrier,
     text: &[u8],
     out: &mut String,
-) -> Result<(), AllocError>
+) -> fmt::Result
     ensures { OnOk result (string_bytes out.new ≡ string_bytes out.old ++ running_text (hall_meaning hall.now) (state_of planner.old) (slip_of carrier) (lines text.now)) }
 {
     let mut carrier = carrier;
@@ -64,7 +64,7 @@ fn serve_all(
 }
 
 /// Serves all lines from the first on: until a floor is accepted only a floor line is allowed.
-fn run_lines(table: &mut [Record<Seconds>], text: &[u8], out: &mut String) -> Result<(), AllocError>
+fn run_lines(table: &mut [Record<Seconds>], text: &[u8], out: &mut String) -> fmt::Result
     ensures { OnOk result (string_bytes out.new ≡ string_bytes out.old ++ lines_text (length table.old) (lines text.now)) }
 {
     let mut left = text;
@@ -85,7 +85,7 @@ fn run_lines(table: &mut [Record<Seconds>], text: &[u8], out: &mut String) -> Re
 }
 
 /// Serves a whole job, and adds an answer line for each of its lines; a job over 65,536 bytes is refused as a whole.
-pub fn run_job(text: &[u8], out: &mut String) -> Result<(), AllocError>
+pub fn run_job(text: &[u8], out: &mut String) -> fmt::Result
     ensures { OnOk result (string_bytes out.new ≡ string_bytes out.old ++ job_text text.now) }
 {
     if text.len() > 65536 {

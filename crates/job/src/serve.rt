@@ -11,11 +11,11 @@ use floor::{Floor, Hall};
 use jobtext::line::Line;
 use jobtext::text::{write_no, write_ok, write_route};
 use planner::{Parked, Planner, Reading};
-use std::alloc::AllocError;
+use std::fmt;
 use toll::{Refusal, Seconds};
 
 /// Adds the answer line of a refusal.
-pub fn refuse(out: &mut String, why: Refusal) -> Result<(), AllocError>
+pub fn refuse(out: &mut String, why: Refusal) -> fmt::Result
     ensures { OnOk result (string_bytes out.new ≡ string_bytes out.old ++ refusal_line why) }
 {
     write_no(out, u32::from(why.number()))
@@ -32,10 +32,7 @@ fn standing(carrier: &Carrier) -> Standing
 }
 
 /// Adds the answer line of a reading: the toll and the next place, or `-` for none.
-fn write_reading(
-    out: &mut String,
-    answer: Result<Reading<Seconds>, Refusal>,
-) -> Result<(), AllocError>
+fn write_reading(out: &mut String, answer: Result<Reading<Seconds>, Refusal>) -> fmt::Result
     ensures { OnOk result (string_bytes out.new ≡ string_bytes out.old ++ reading_line answer) }
 {
     match answer {
@@ -60,7 +57,7 @@ fn route_line(
     hall: &Hall,
     slip: Parked,
     out: &mut String,
-) -> Result<Carrier, AllocError>
+) -> Result<Carrier, fmt::Error>
     ensures planner { state_of planner.new ≡ (route_served slip.place (routed seconds_kind (hall_meaning hall.now) (state_of planner.old) slip.place (replicate 1024 0))).state }
     ensures carrier { IfOk result (λ c. slip_of c ≡ (route_served slip.place (routed seconds_kind (hall_meaning hall.now) (state_of planner.old) slip.place (replicate 1024 0))).slip) }
     ensures text { OnOk result (string_bytes out.new ≡ string_bytes out.old ++ (route_served slip.place (routed seconds_kind (hall_meaning hall.now) (state_of planner.old) slip.place (replicate 1024 0))).text) }
@@ -92,7 +89,7 @@ pub fn serve_line(
     carrier: Carrier,
     text: &[u8],
     out: &mut String,
-) -> Result<Carrier, AllocError>
+) -> Result<Carrier, fmt::Error>
     ensures planner { OnOk result (state_of planner.new ≡ (served_text (hall_meaning hall.now) (state_of planner.old) (slip_of carrier) text.now).state) }
     ensures carrier { IfOk result (λ c. slip_of c ≡ (served_text (hall_meaning hall.now) (state_of planner.old) (slip_of carrier) text.now).slip) }
     ensures text { OnOk result (string_bytes out.new ≡ string_bytes out.old ++ (served_text (hall_meaning hall.now) (state_of planner.old) (slip_of carrier) text.now).text) }

@@ -172,10 +172,10 @@ module _ (before : List Exchange) (e : Exchange) (met : Met (empty 1024) before 
           let V = o.led.world in
           let turn = turn_of (Parked p) call.Route (replicate 1024 0) in
           let d = served seconds_kind V turn in
-          let is-text = answered (running V (Parked p)) q in
+          let is_text = answered (running V (Parked p)) q in
           let fits : V.floor.places ≤ length (replicate {A = ℕ} 1024 0) = omega (arith, (hall_lawful o.size (seconds o.least) o.led.reached.hall).few_places, length-replicate {A = ℕ} 1024 0) in
           let k = (promised seconds_lawful o.led.reached.by turn).answered p.place refl refl fits in
-          let T = told_by V p.place turn d d.answer refl k.cheapest (sym (ap accepted is-text) ∙ t) in
+          let T = told_by V p.place turn d d.answer refl k.cheapest (sym (ap accepted is_text) ∙ t) in
           let T2 = subst (λ (m : Meaning Seconds). Told m V.planner.target p.place (answer_line d.answer d.buffer)) o.led.floor_is T in
           let T3 = subst (λ (n : ℕ). Told (hall_after o.rows o.columns o.least (changes o.since)) n p.place (answer_line d.answer d.buffer)) o.led.reached.aim T2 in
           record {
@@ -193,7 +193,7 @@ module _ (before : List Exchange) (e : Exchange) (met : Met (empty 1024) before 
             found = T3.found;
             cheapest = T3.cheapest;
             count = T3.count;
-            told = is-text ∙ T3.told;
+            told = is_text ∙ T3.told;
           }
 
 pub log_routes : (ls : List (List ℕ)) (before after : List Exchange) (e : Exchange) → log_from (empty 1024) ls ≡ before ++ (e ∷ after) → e.line ≡ codes "R" → accepted e.answer ≡ true → LeastRoute before e.answer

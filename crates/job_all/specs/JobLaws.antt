@@ -2,7 +2,7 @@
 -- Exchange                     a line of a job with its answer
 -- OneLine                      an answer is one line of text
 -- changes log                  the changes among some exchanges that were accepted, in order
--- hall_after                    the hall of a floor line after some changes
+-- hall_after                   the hall of a floor line after some changes
 -- LeastRoute                   an answered route line
 -- JobLaws text                 the laws of the job text
 use Rattle.std.specs.Prelude.{◌≡◌, ℕ, ◌*◌, Bool, true, cond, List, [], ◌∷◌, ◌++◌, map, replicate, Some, None, codes, Option, ◌==◌, slice_index}

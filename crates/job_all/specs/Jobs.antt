@@ -1,10 +1,10 @@
 -- A whole job: what each line answers and leaves, and what all lines print.
 -- Stage                        where a job stands between two lines: no floor yet, or a world and the carrier's slip
--- call_of, answer_line           the call that a line makes, and the text of its answer
+-- call_of, answer_line         the call that a line makes, and the text of its answer
 -- opened                       a line while there is no floor
--- served_text                   a line once there is a floor
+-- served_text                  a line once there is a floor
 -- stepped s l                  the line l where the job stands at s: the answer line, and where the job stands then
--- lines_text, job_text           what some lines print, and what a job prints
+-- lines_text, job_text         what some lines print, and what a job prints
 use Rattle.std.specs.Prelude.{◌≡◌, ℕ, ◌*◌, Bool, cond, List, [], ◌∷◌, ◌++◌, length, take, replicate, Some, None, Ok, Err, Option, Result, nat_lt}
 use Rattle.std.specs.Option.{option_map}
 use Rattle.toll.specs.SecondsKind.{seconds, seconds_kind}

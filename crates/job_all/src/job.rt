@@ -10,7 +10,7 @@ use super::serve::{refuse, serve_line};
 use floor::{Floor, Hall};
 use jobtext::lines::first_line;
 use planner::{Carrier, Planner, Record};
-use std::alloc::AllocError;
+use std::fmt;
 use toll::{Refusal, Seconds};
 
 /// Serves all lines once there is a floor.
@@ -20,7 +20,7 @@ fn serve_all(
     carrier: Carrier,
     text: &[u8],
     out: &mut String,
-) -> Result<(), AllocError>
+) -> fmt::Result
     ensures { OnOk result (string_bytes out.new ≡ string_bytes out.old ++ lines_text (running (world_of (hall_meaning hall.old) planner.old) carrier) (lines text.now)) }
 {
     let mut carrier = carrier;
@@ -34,7 +34,7 @@ fn serve_all(
 }
 
 /// Serves all lines from the first on: until a floor is accepted only a floor line is allowed.
-fn run_lines(table: &mut [Record<Seconds>], text: &[u8], out: &mut String) -> Result<(), AllocError>
+fn run_lines(table: &mut [Record<Seconds>], text: &[u8], out: &mut String) -> fmt::Result
     ensures { OnOk result (string_bytes out.new ≡ string_bytes out.old ++ lines_text (empty (length table.old)) (lines text.now)) }
 {
     let mut left = text;
@@ -56,7 +56,7 @@ fn run_lines(table: &mut [Record<Seconds>], text: &[u8], out: &mut String) -> Re
 }
 
 /// Serves a whole job, and adds an answer line for each of its lines; a job over 65,536 bytes is refused as a whole.
-pub fn run_job(text: &[u8], out: &mut String) -> Result<(), AllocError>
+pub fn run_job(text: &[u8], out: &mut String) -> fmt::Result
     ensures text { OnOk result (string_bytes out.new ≡ string_bytes out.old ++ job_text text.now) }
     ensures laws { length text.now ≤ 65536 → JobLaws text.now }
 {

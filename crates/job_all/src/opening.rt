@@ -9,7 +9,7 @@ use floor::{Floor, Hall};
 use jobtext::line::Line;
 use jobtext::text::write_ok;
 use planner::{Planner, Record};
-use std::alloc::AllocError;
+use std::fmt;
 use toll::{Refusal, Seconds};
 
 /// A floor line that was accepted: the hall, the target and the carrier's place.
@@ -48,7 +48,7 @@ pub fn open_line(
     table: &[Record<Seconds>],
     text: &[u8],
     out: &mut String,
-) -> Result<Option<Opening>, AllocError>
+) -> Result<Option<Opening>, fmt::Error>
     ensures opening { IfOk result (λ o. found_by (length table.now) (opened_text (length table.now) text.now) o) }
     ensures text { OnOk result (string_bytes out.new ≡ string_bytes out.old ++ (opened_stage (length table.now) (opened_text (length table.now) text.now)).text) }
 {

@@ -10,11 +10,11 @@ use floor::{Floor, Hall};
 use jobtext::line::Line;
 use jobtext::text::{write_no, write_ok, write_route};
 use planner::{Answer, Call, Carrier, Planner, Reading};
-use std::alloc::AllocError;
+use std::fmt;
 use toll::{Refusal, Seconds};
 
 /// Adds the answer line of a refusal.
-pub fn refuse(out: &mut String, why: Refusal) -> Result<(), AllocError>
+pub fn refuse(out: &mut String, why: Refusal) -> fmt::Result
     ensures { OnOk result (string_bytes out.new ≡ string_bytes out.old ++ refusal_line why) }
 {
     write_no(out, u32::from(why.number()))
@@ -50,7 +50,7 @@ fn call_of(line: Line) -> Option<Call<Seconds>>
 }
 
 /// Adds the answer line of a reading: the toll and the next place, or `-` for none.
-fn write_reading(out: &mut String, reading: Reading<Seconds>) -> Result<(), AllocError>
+fn write_reading(out: &mut String, reading: Reading<Seconds>) -> fmt::Result
     ensures { OnOk result (string_bytes out.new ≡ string_bytes out.old ++ answer_line (Answer.Reading reading) []) }
 {
     let toll = match reading.toll {
@@ -65,7 +65,7 @@ fn write_reading(out: &mut String, reading: Reading<Seconds>) -> Result<(), Allo
 }
 
 /// Adds the answer line of a call; the way of a route stands at the front of the buffer.
-fn write_answer(out: &mut String, answer: Answer<Seconds>, way: &[u16]) -> Result<(), AllocError>
+fn write_answer(out: &mut String, answer: Answer<Seconds>, way: &[u16]) -> fmt::Result
     requires { WayFits answer way.now }
     ensures { OnOk result (string_bytes out.new ≡ string_bytes out.old ++ answer_line answer way.now) }
 {
@@ -91,7 +91,7 @@ pub fn serve_line(
     carrier: Carrier,
     text: &[u8],
     out: &mut String,
-) -> Result<Carrier, AllocError>
+) -> Result<Carrier, fmt::Error>
     ensures world { OnOk result (world_of (hall_meaning hall.new) planner.new ≡ (served_text (world_of (hall_meaning hall.old) planner.old) carrier text.now).world) }
     ensures carrier { IfOk result (λ c. c ≡ (served_text (world_of (hall_meaning hall.old) planner.old) carrier text.now).slip) }
     ensures text { OnOk result (string_bytes out.new ≡ string_bytes out.old ++ (served_text (world_of (hall_meaning hall.old) planner.old) carrier text.now).text) }

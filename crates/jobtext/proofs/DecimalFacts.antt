@@ -35,5 +35,5 @@ reads_only w n e =
     let v : value 0 w ≡ n = grind (arith, nat_tests) in
     let small : n < 4294967296 = grind (arith, nat_tests) in
     let some : 0 < length w = grind (arith, nat_tests) in
-    let zero-alone : get_or w 0 0 ≡ 48 → length w ≡ 1 = λ q. grind (arith, nat_tests) in
-    (sym (decimal-digits_value numerals w ds some zero-alone (wide _ n v small)) ∙ ap decimal v, small)
+    let zero_alone : get_or w 0 0 ≡ 48 → length w ≡ 1 = λ q. grind (arith, nat_tests) in
+    (sym (decimal-digits_value numerals w ds some zero_alone (wide _ n v small)) ∙ ap decimal v, small)

@@ -1,9 +1,9 @@
 -- What a lane plan means: record i is lane i, and spot i has its toll.
--- lane_as, lane_of, spot_of         a record as a lane and as a spot
--- list_meaning, plan_meaning       a list of records, and the code's plan, as a floor
--- lanes_at rs end p               the lanes of which that end is place p
+-- lane_as, lane_of, spot_of      a record as a lane and as a spot
+-- list_meaning, plan_meaning     a list of records, and the code's plan, as a floor
+-- lanes_at rs end p              the lanes of which that end is place p
 -- retolled rs k t                the list with toll t at record k
--- made_meaning, made_lanes         a plan that is made from a list
+-- made_meaning, made_lanes       a plan that is made from a list
 use Rattle.std.specs.Prelude.{ℕ, zero, suc, cond, ◌&&◌, List, [], ◌∷◌, map, length, is_ok, Some, None, Option, nat_lt}
 use Rattle.std.specs.Option.{option_map}
 use Rattle.std.specs.List.{slice_get}

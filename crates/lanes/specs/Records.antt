@@ -1,7 +1,7 @@
 -- Lists of lane records, and which of them a plan can hold.
--- same_ends, appears              whether records share both ends in the same order
--- placed, all_fair                whether a record, and a whole list, is fair
--- plan_size, plan_answer           whether the size fits; what the check answers
+-- same_ends, appears             whether records share both ends in the same order
+-- placed, all_fair               whether a record, and a whole list, is fair
+-- plan_size, plan_answer         whether the size fits; what the check answers
 -- Fair, Fits                     the same in words
 use Rattle.std.specs.Prelude.{◌≡◌, ℕ, ◌<◌, ◌≤◌, Bool, true, false, cond, not, ◌&&◌, ◌||◌, List, [], ◌∷◌, length, Some, Ok, Err, Result, ◌==◌, nat_le, nat_lt}
 use Rattle.std.specs.List.{slice_get}

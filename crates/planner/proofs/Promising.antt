@@ -23,7 +23,7 @@ use Rattle.planner.specs.Promise.{PassableWay, CheapestAnswer, Answered, LeastSt
 use Rattle.astar.proofs.Order.{le_eq, not_both}
 use Rattle.astar.proofs.Lanes.{between_leads}
 use Rattle.tree.proofs.Options.{then_some}
-use Rattle.planner.proofs.RouteProof.{route_laws}
+use Rattle.planner.proofs.RouteProof.{route_laws, answers_below_shut}
 use Rattle.repair.proofs.Dropping.{change_sound, change_dropped}
 use Rattle.planner.proofs.Serving.{route_expanded}
 use Rattle.planner.proofs.Reaching.{SoundIn, ChangeSound, ChangeDropped, served_dropped, reachable_sound, reachable_tally}
@@ -62,7 +62,7 @@ module _ {T : Type 0} {A : Tolls T} (L : TollLaws A) (W : World T) (F : FloorLaw
     found (Ok a) e n =
         let k = (route_laws L F W.planner s turn.buffer).cheapest G a e in
         record {
-          found = record { way = k.way; toll = a.toll; leads = k.leads; is = k.toll; below = k.below };
+          found = record { way = k.way; toll = a.toll; leads = k.leads; is = k.toll; below = answers_below_shut L F W.planner s turn.buffer G a e };
           toll = ap (λ r. (said (answer_by answer.Route r)).toll) e;
           long = ap (λ r. (said (answer_by answer.Route r)).length) e ∙ ap (λ (n : ℕ). Some n) k.long;
           written = k.written;

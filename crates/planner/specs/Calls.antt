@@ -1,9 +1,9 @@
 -- The calls: what each answers, when it refuses, and what it leaves.
--- State, state_of               a planner's target, tree and tally
--- set_up_answer, set_up_state      set-up: what the check answers, and the planner that is made
--- read_answer                   reading a place
--- routed                       a route: its answer, and the state and the buffer that it leaves
--- changed                      a change: its answer, and the floor and the state that it leaves
+-- State, state_of                a planner's target, tree and tally
+-- set_up_answer, set_up_state    set-up: what the check answers, and the planner that is made
+-- read_answer                    reading a place
+-- routed                         a route: its answer, and the state and the buffer that it leaves
+-- changed                        a change: its answer, and the floor and the state that it leaves
 -- put_answer, step_answer        putting the carrier at another place, and a step: the place where it then is
 use Rattle.std.specs.Prelude.{ℕ, suc, ◌+◌, min, cond, not, ◌&&◌, List, [], ◌∷◌, ◌++◌, length, take, drop, Some, None, Ok, Err, Option, Result, ◌==◌, nat_lt}
 use Rattle.std.specs.List.{slice_get}
@@ -51,7 +51,7 @@ set_up_state A (Err _) places target = record { target = 0; tree = []; tally = 0
 abbrev pub read_answer : {T : Type 0} → List (Entry T) → ℕ → Result (Reading T) Refusal
 read_answer E p = cond (nat_lt p (length E)) (Ok (record { toll = toll_at E p; next = next_at E p })) (Err UnknownPlace)
 
--- why a route is refused before its run: another floor, a buffer that is too short, or a slip's place that is no place
+-- why a route is refused before its search: another floor, a buffer that is too short, or a slip's place that is no place
 abbrev pub route_refused : (places floor buffer place : ℕ) → Option Refusal
 route_refused places floor buffer place =
     cond (not (floor == places)) (Some OtherFloor) (cond (nat_lt buffer places) (Some ShortBuffer) (cond (nat_lt place places) None (Some UnknownPlace)))
@@ -66,11 +66,11 @@ pub record Routed (T : Type 0) : Type 0 where
 abbrev pub tallied : ℕ → ℕ → ℕ
 tallied tally count = min (tally + count) 4294967295
 
--- the state after a run: the target stays, the tree is the run's, and the tally rises by its count
+-- the state after a search: the target stays, the tree is the search's, and the tally rises by its count
 abbrev pub searched_state : {T : Type 0} → State T → Searched T → State T
 searched_state S r = record { target = S.target; tree = r.tree; tally = tallied S.tally (length r.expanded) }
 
--- the answer after a solved run with that count, by the recorded way that the floor bears out
+-- the answer after a solved search with that count, by the recorded way that the floor bears out
 abbrev pub way_answer : {T : Type 0} → ℕ → Option (List ℕ × T) → Result (Route T) Refusal
 way_answer count None = Err BrokenWay
 way_answer count (Some p) = Ok (record { toll = p.1; count = count; length = suc (length p.0) })
@@ -80,17 +80,17 @@ abbrev pub way_buffer : {T : Type 0} → ℕ → List ℕ → Option (List ℕ �
 way_buffer s buffer None = buffer
 way_buffer s buffer (Some p) = (s ∷ p.0) ++ drop (suc (length p.0)) buffer
 
--- the answer after a run, by how it ended
+-- the answer after a search, by how it ended
 abbrev pub search_answer : {T : Type 0} → Tolls T → Meaning T → (t s : ℕ) → Searched T → Outcome → Result (Route T) Refusal
 search_answer A m t s r Solved = way_answer (length r.expanded) (borne_out A m r.tree t s)
 search_answer A m t s r outcome.NoWay = Err NoWay
 
--- the buffer after a run, by how it ended
+-- the buffer after a search, by how it ended
 abbrev pub search_buffer : {T : Type 0} → Tolls T → Meaning T → (t s : ℕ) → List ℕ → Searched T → Outcome → List ℕ
 search_buffer A m t s buffer r Solved = way_buffer s buffer (borne_out A m r.tree t s)
 search_buffer A m t s buffer r outcome.NoWay = buffer
 
--- a route that gets as far as its run
+-- a route that gets as far as its search
 abbrev pub route_searched : {T : Type 0} → Tolls T → Meaning T → State T → ℕ → List ℕ → Searched T → Routed T
 route_searched A m S s buffer r = record {
   answer = search_answer A m S.target s r r.outcome;
@@ -98,7 +98,7 @@ route_searched A m S s buffer r = record {
   buffer = search_buffer A m S.target s buffer r r.outcome;
 }
 
--- a route, by why it may be refused before its run
+-- a route, by why it may be refused before its search
 abbrev pub route_by : {T : Type 0} → Tolls T → Meaning T → State T → ℕ → List ℕ → Option Refusal → Routed T
 route_by A m S s buffer (Some why) = record { answer = Err why; state = S; buffer = buffer }
 route_by A m S s buffer None = route_searched A m S s buffer (seek A m s (length S.tree) S.tree)

@@ -1,6 +1,6 @@
 -- Every call as one: what is handed to it, what it hands back, and what it leaves.
 -- World                        the floor and the planner
--- world_of, turn_of              the same of the code's values
+-- world_of, turn_of            the same of the code's values
 -- Turn, Served                 what is handed to a call; what it hands back and leaves
 -- said                         what an answer says: the number of a refusal, and its values
 -- served A W turn              the call

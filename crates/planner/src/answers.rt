@@ -1,6 +1,6 @@
 use toll::Refusal;
 
-/// What a route answers: its toll, how many places were expanded, and how many places the way has.
+/// What a route answers: its toll, how many places the search expanded, and how many places the way has.
 #[derive(Clone, Copy)]
 pub struct Route<T> {
     pub toll: T,
@@ -28,7 +28,7 @@ pub enum Answer<T> {
     Place(u32),
     /// What is recorded of a place.
     Reading(Reading<T>),
-    /// The sum of the counts of all routes.
+    /// The sum of all search counts.
     Tally(u32),
 }
 

@@ -1,8 +1,8 @@
 -- Repairing the tree after a spot's toll has changed: which places leave it, and which are opened again.
--- shift_of A old new            what became of a toll
--- by_place f E                  a list made of another, each item by its place number
+-- shift_of A old new           what became of a toll
+-- by_place f E                 a list made of another, each item by its place number
 -- joins m k p q                whether a lane of spot k leads from p to q
--- uses_spot m k E t n p         whether the recorded way from p uses a lane of spot k within its first n lanes
+-- uses_spot m k E t n p        whether the recorded way from p uses a lane of spot k within its first n lanes
 -- drops m k t E p              whether place p is dropped
 -- repaired m k t shift E       the tree afterwards
 use Rattle.std.specs.Prelude.{ℕ, zero, suc, Bool, false, cond, ◌&&◌, ◌||◌, List, [], ◌∷◌, length, is_some, Some, None, Option, ◌==◌}

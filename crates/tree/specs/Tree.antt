@@ -1,10 +1,10 @@
--- The tree: for each place a recorded toll, a next place towards the target, and whether it is open.
--- Entry T, tree_of              what the table's records say, place by place
--- toll_at, next_at, open_toll     of a place: its recorded toll, its next place, its toll if it is open
--- start_tree                    the tree at set-up
+-- The search tree: for each place a recorded toll, a next place towards the target, and whether it is open.
+-- Entry T, tree_of               what the table's records say, place by place
+-- toll_at, next_at, open_toll    of a place: its recorded toll, its next place, its toll if it is open
+-- start_tree                     the tree at set-up
 -- close_at, opened_if            a place is closed, or opened
--- alter f E p                  a list with one item changed
--- marks_of, marked              the marks in a table's records
+-- alter f E p                    a list with one item changed
+-- marks_of, marked               the marks in a table's records
 use Rattle.std.specs.Prelude.{ℕ, zero, suc, Bool, true, false, cond, ◌&&◌, List, [], ◌∷◌, map, replicate, is_some, Some, None, Option, slice_set}
 use Rattle.std.specs.Option.{unwrap_or}
 use Rattle.std.specs.List.{slice_get}

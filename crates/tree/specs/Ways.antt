@@ -1,9 +1,9 @@
 -- Ways over a floor, their tolls, and the recorded way.
--- lane_between, toll_between     the lane from one place to another, and its toll
--- ends p w                     where the way from p over the places w leads
+-- lane_between, toll_between    the lane from one place to another, and its toll
+-- ends p w                      where the way from p over the places w leads
 -- way_toll A m p w              its toll, if each place is joined to the following by a lane
--- Least A m t p g              no way from p to t is cheaper than g
--- recorded E t n p             the places after p on its recorded way, within n lanes of the target
+-- Least A m t p g               no way from p to t is cheaper than g
+-- recorded E t n p              the places after p on its recorded way, within n lanes of the target
 -- next_step m E p               the next place of p, if a lane leads there
 use Rattle.std.specs.Prelude.{◌≡◌, ℕ, zero, suc, ◌-◌, Bool, false, cond, ◌&&◌, List, [], ◌∷◌, length, Some, None, Option, ◌==◌}
 use Rattle.std.specs.Option.{option_map, unwrap_or}

@@ -4,7 +4,7 @@ ghost use Rattle.floor.specs.Grid.{hall_meaning};
 use super::Hall;
 use super::lanes::pick;
 use crate::floor::Floor;
-use toll::{Refusal, Seconds, Toll, Toll as _};
+use toll::{Refusal, Seconds, Toll};
 
 impl Floor for Hall {
     type Toll = Seconds;

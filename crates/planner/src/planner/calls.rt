@@ -113,7 +113,7 @@ impl<'t, T: Toll> Planner<'t, T> {
         })
     }
 
-    /// The sum of the counts of all routes; it stops at 4,294,967,295.
+    /// The sum of all search counts; it stops at 4,294,967,295.
     pub fn tally(&self) -> u32
         ensures answer { result ≡ (state_of self.now).tally }
         ensures promise { (m : Meaning T) (slip : Carrier) → Keeps T.Toll.tolls (world_of m self.now) (turn_of slip Call.Tally []) (record { answer = Answer.Tally result; slip = slip; world = world_of m self.now; buffer = [] }) }

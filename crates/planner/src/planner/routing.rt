@@ -3,7 +3,7 @@ ghost use Rattle.tree.specs.Tree.{tree_of};
 ghost use Rattle.tree.specs.Ways.{borne_out};
 ghost use Rattle.astar.specs.Search.{seek};
 ghost use Rattle.planner.specs.Held.{Held};
-ghost use Rattle.planner.specs.RouteLaws.{RouteLaws};
+ghost use Rattle.planner.specs.RouteLaws.{AnswersBelowShut, RouteLaws};
 ghost use Rattle.planner.specs.Calls.{state_of, way_answer, way_buffer, search_answer, search_buffer, routed, route_answer, route_slip};
 ghost use Rattle.planner.specs.Served.{world_of, turn_of, slip_by, parked_at, under_way_at};
 ghost use Rattle.planner.specs.Handed.{route_carrier, route_done};
@@ -20,7 +20,7 @@ use toll::{Refusal, Toll};
 use tree::Record;
 use tree::way::{borne_out, write_way};
 
-/// The answer after a solved run: the recorded way, if the floor bears it out, goes to the front of the buffer.
+/// The answer after a solved search: the recorded way, if the floor bears it out, goes to the front of the buffer.
 fn follow<T: Toll, F: Floor<Toll = T>>(
     table: &[Record<T>],
     floor: &F,
@@ -45,7 +45,7 @@ fn follow<T: Toll, F: Floor<Toll = T>>(
     })
 }
 
-/// Runs A* and follows the recorded way; answers the run's count too, which counts on a refusal as well.
+/// Searches and follows the recorded way; answers the search's count too, which counts on a refusal as well.
 fn plan<T: Toll, F: Floor<Toll = T>>(
     table: &mut [Record<T>],
     floor: &F,
@@ -87,7 +87,7 @@ fn hand_over<T: Toll>(
 
 impl<'t, T: Toll> Planner<'t, T> {
     /// Plans the way from the slip's place to the target, and writes its places to the front of the buffer.
-    /// A refusal hands the same slip back; one that comes before the run leaves everything as it was.
+    /// A refusal hands the same slip back; one that comes before the search leaves everything as it was.
     pub fn route<F: Floor<Toll = T>>(
         &mut self,
         floor: &F,
@@ -101,6 +101,7 @@ impl<'t, T: Toll> Planner<'t, T> {
         ensures carrier { route_carrier result ≡ slip_by (λ a. under_way_at slip.place) (parked_at slip.place) (routed T.Toll.tolls (F.Floor.meaning floor.now) (state_of self.old) slip.place way.old).answer }
         ensures held { Held self.old self.new }
         ensures laws { RouteLaws T.Toll.tolls (F.Floor.meaning floor.now) (state_of self.old) slip.place way.old }
+        ensures below { AnswersBelowShut T.Toll.tolls (F.Floor.meaning floor.now) (state_of self.old) (route_answer result) }
         ensures expanded { (state_of self.old).tally ≤ 4294967295 → Expanded T.Toll.tolls (world_of (F.Floor.meaning floor.now) self.old) (turn_of (parked_at slip.place) Call.Route way.old) (record { answer = route_done (route_answer result); slip = route_carrier result; world = world_of (F.Floor.meaning floor.now) self.new; buffer = way.new }) }
         ensures promise { Keeps T.Toll.tolls (world_of (F.Floor.meaning floor.now) self.old) (turn_of (parked_at slip.place) Call.Route way.old) (record { answer = route_done (route_answer result); slip = route_carrier result; world = world_of (F.Floor.meaning floor.now) self.new; buffer = way.new }) }
     {
