@@ -1,6 +1,5 @@
 -- What holds on every floor whose lane numbers are bounded: its lists of lanes, and setting.
-use Rattle.std.proofs.Common.{◌≡◌, ℕ, zero, suc, ◌<◌, ◌≤◌, Bool, true, false, cond, List, [], ◌∷◌, map, length, take, set, is_ok, Some, None, Ok, Err, Option, sym, refl, ap, ◌∙◌, subst, inl, arith}
-use Rattle.std.specs.Option.{option_map}
+use Rattle.std.proofs.Common.{◌≡◌, ℕ, zero, suc, ◌<◌, ◌≤◌, Bool, true, false, cond, List, [], ◌∷◌, length, take, set, is_ok, Some, None, Ok, Err, Option, sym, refl, ap, ◌∙◌, subst, inl, arith}
 use Rattle.std.specs.List.{slice_get}
 use Rattle.std.proofs.lemmas.Bool.Decides.{nat_tests}
 use Rattle.toll.specs.declared.refusal.Refusal.{Refusal}
@@ -50,11 +49,6 @@ module _ {A : Type 0} where
   nth_set_other (x ∷ xs) zero (suc j) a ne = refl
   nth_set_other (x ∷ xs) (suc i) zero a ne = refl
   nth_set_other (x ∷ xs) (suc i) (suc j) a ne = nth_set_other xs i j a (λ e. ne (ap suc e))
-
-pub nth_map : {A B : Type 0} (f : A → B) (xs : List A) (k : ℕ) → slice_get (map f xs) k ≡ option_map f (slice_get xs k)
-nth_map f [] k = refl
-nth_map f (x ∷ xs) zero = refl
-nth_map f (x ∷ xs) (suc k) = nth_map f xs k
 
 -- setting alters the one toll alone
 module _ {T : Type 0} (A : Tolls T) (m : Meaning T) (k : ℕ) (t : T) where

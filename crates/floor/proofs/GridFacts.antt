@@ -4,6 +4,9 @@ use Rattle.std.specs.Option.{option_map}
 use Rattle.std.proofs.lemmas.Nat.{mul-add-lt, div-mul-add, mod-mul-add, div_below}
 use Rattle.std.proofs.lemmas.Bool.{cases_eq, cases_lt}
 use Rattle.std.proofs.lemmas.Bool.Decides.{nat_tests}
+use Rattle.floor.specs.declared.hall.direction.Direction.{Direction}
+use Rattle.floor.specs.declared.hall.direction.Direction.TheVariants.{Up, Right, Down, Left}
+use Rattle.floor.specs.Directions.{number}
 use Rattle.floor.specs.Meaning.{Lane}
 use Rattle.floor.specs.Grid.{cell, given, beside, next, grid_lane}
 
@@ -128,3 +131,9 @@ pub lane_hops : (h w l : ℕ) → grid_lane h w l ≡ option_map (lane_to l) (ho
 lane_hops h w l =
     ⊎_elim (λ (b : l / 4 < h * w). let e = next_hop h w (l / 4) (l % 4) b (omega arith) in let t : ltb (l / 4) (h * w) ≡ true = grind (arith, nat_tests) in rw (t, e))
     (λ (b : h * w ≤ l / 4). grind (arith, nat_tests)) (cases_lt (l / 4) (h * w))
+
+pub number_below : (d : Direction) → number d < 4
+number_below Up = omega arith
+number_below Right = omega arith
+number_below Down = omega arith
+number_below Left = omega arith

@@ -3,7 +3,7 @@ use Rattle.std.proofs.Common.{◌≡◌, ℕ, zero, suc, ◌+◌, ◌*◌, ◌%�
 use Rattle.std.specs.Option.{option_map}
 use Rattle.std.specs.List.{slice_get}
 use Rattle.std.proofs.lemmas.List.{take-replicate, length-map, length-take-le, get_or-take, map-set}
-use Rattle.std.proofs.lemmas.Option.{slice_get-get_or, slice_get_past}
+use Rattle.std.proofs.lemmas.Option.{slice_get-get_or, slice_get_past, slice_get-map}
 use Rattle.std.proofs.lemmas.Bool.{cases_lt, le-leb}
 use Rattle.std.proofs.lemmas.Bool.Decides.{nat_tests}
 use Rattle.toll.specs.declared.seconds.Seconds.{Seconds}
@@ -15,7 +15,7 @@ use Rattle.floor.specs.Meaning.{Spot, lanes_by, out_of, into, of_spot}
 use Rattle.floor.specs.Setting.{with_toll}
 use Rattle.floor.specs.Grid.{hall_size, next, repeated, grid_lane, grid_estimate, grid_meaning, hall_meaning}
 use Rattle.floor.specs.Rising.{present}
-use Rattle.floor.proofs.FloorFacts.{nth_map, take_of_set}
+use Rattle.floor.proofs.FloorFacts.{take_of_set}
 use Rattle.floor.proofs.HallLaws.{hall_laws, spot_is}
 use Rattle.floor.proofs.RisingFacts.{same_rising}
 use Rattle.floor.proofs.GridFacts.{next_hop}
@@ -67,11 +67,11 @@ module _ (rows columns : ℕ) (least : Seconds) (tolls : List ℕ) (full : lengt
 
   pub toll_at_lem : (k : ℕ) → k < rows * columns → slice_get (map seconds (take (rows * columns) tolls)) k ≡ Some (seconds (get_or tolls k 0))
   toll_at_lem k h =
-      nth_map seconds (take (rows * columns) tolls) k
+      slice_get-map seconds (take (rows * columns) tolls) k
       ∙ ap (option_map seconds) (slice_get-get_or (take (rows * columns) tolls) k 0 (omega (arith, length-take-le (rows * columns) tolls (omega arith))) ∙ ap (λ (n : ℕ). Some n) (get_or-take (rows * columns) tolls k 0 h))
 
   pub spot_at : (k : ℕ) → k < rows * columns → slice_get (grid_meaning rows columns least (map seconds (take (rows * columns) tolls))).spots k ≡ Some (record { toll = seconds (get_or tolls k 0); least = least })
-  spot_at k h = nth_map (λ t. record { toll = t; least = least }) (map seconds (take (rows * columns) tolls)) k ∙ ap (option_map (λ t. record { toll = t; least = least })) (toll_at_lem k h)
+  spot_at k h = slice_get-map (λ t. record { toll = t; least = least }) (map seconds (take (rows * columns) tolls)) k ∙ ap (option_map (λ t. record { toll = t; least = least })) (toll_at_lem k h)
 
   pub spot_past : (k : ℕ) → rows * columns ≤ k → slice_get (grid_meaning rows columns least (map seconds (take (rows * columns) tolls))).spots k ≡ None
   spot_past k h = slice_get_past _ k (omega (arith, spots_length))

@@ -6,6 +6,7 @@ use Rattle.std.specs.List.{slice_get}
 use Rattle.std.proofs.lemmas.List.{length-map}
 use Rattle.std.proofs.lemmas.Bool.{cases_eq}
 use Rattle.std.proofs.lemmas.Bool.Decides.{nat_tests}
+use Rattle.std.proofs.lemmas.Option.{slice_get-map}
 use Rattle.toll.specs.Tolls.{Tolls, TollLaws, Le}
 use Rattle.toll.specs.SecondsKind.{seconds_kind}
 use Rattle.toll.specs.declared.seconds.Seconds.{Seconds}
@@ -15,7 +16,7 @@ use Rattle.floor.specs.FloorLaws.{FloorLaws}
 use Rattle.floor.specs.Grid.{given, away, repeated, grid_lane, grid_estimate, grid_meaning}
 use Rattle.floor.proofs.GridFacts.{Goes, goes, goes_below, goes_single, goes_apart, some_columns, right_mod, left_mod}
 use Rattle.floor.proofs.GridLanes.{lane_enters}
-use Rattle.floor.proofs.FloorFacts.{listed, none_in, nth_map}
+use Rattle.floor.proofs.FloorFacts.{listed, none_in}
 
 -- a lane leads to a cell that is one step away
 near : (h w a l p : ℕ) → Goes h w l p → away w a p ≤ away w a (l / 4) + 1
@@ -54,7 +55,7 @@ module _ (h w : ℕ) where
 module _ (h w : ℕ) (least : Seconds) (tolls : List Seconds) where
   -- each spot has the least toll of the hall, and a toll of the list
   spot_of : (k : ℕ) (s : Spot Seconds) → slice_get (grid_meaning h w least tolls).spots k ≡ Some s → (slice_get tolls k ≡ Some s.toll) × (s.least ≡ least)
-  spot_of k s e = go (slice_get tolls k) (sym (nth_map (λ t. record { toll = t; least = least }) tolls k) ∙ e)
+  spot_of k s e = go (slice_get tolls k) (sym (slice_get-map (λ t. record { toll = t; least = least }) tolls k) ∙ e)
     where
       go : (o : Option Seconds) → option_map (λ t. record { toll = t; least = least }) o ≡ Some s → (o ≡ Some s.toll) × (s.least ≡ least)
       go None q = absurd (let z : ◌≡◌ {A = ℕ} 0 1 = cc in omega arith)

@@ -5,3 +5,4 @@ pub mod HallFacts
 pub mod GridLanes
 pub mod FloorFacts
 pub mod HallLaws
+pub mod LaneSteps

@@ -4,3 +4,5 @@ pub mod FloorLaws
 pub mod Setting
 pub mod Grid
 pub mod Halls
+pub mod LanesLeft
+pub mod Directions

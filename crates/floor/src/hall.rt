@@ -17,6 +17,7 @@ pub struct Hall {
     ghost above: { ((k : ℕ) → k < rows * columns → least.value ≤ slice_index cells.tolls k) },
 }
 
+mod direction;
 pub mod floored;
 mod lanes;
 mod made;

@@ -5,8 +5,10 @@
 mod cells;
 mod floor;
 mod hall;
+mod lanes;
 #[cfg(test)]
 mod tests;
 
 pub use floor::Floor;
 pub use hall::Hall;
+pub use lanes::Lanes;

@@ -1,4 +1,4 @@
-ghost use Rattle.std.specs.Prelude.{◌≡◌};
+ghost use Rattle.std.specs.Prelude.{◌≡◌, not, ◌&&◌};
 ghost use Rattle.toll.specs.Tolls.{Tolls, TollLaws};
 
 /// A kind of toll: values in a total order that can be joined one behind the other.
@@ -9,6 +9,20 @@ pub trait Toll: Copy {
     /// Whether this toll is at most the other.
     fn at_most(self, other: Self) -> bool
         ensures { result ≡ tolls.le self other };
+
+    /// Whether this toll is below the other.
+    final fn is_below(self, other: Self) -> bool
+        ensures { result ≡ not (tolls.le other self) }
+    {
+        !other.at_most(self)
+    }
+
+    /// Whether neither toll is below the other.
+    final fn is_same(self, other: Self) -> bool
+        ensures { result ≡ (tolls.le self other && tolls.le other self) }
+    {
+        self.at_most(other) && other.at_most(self)
+    }
 
     /// This toll and then the other.
     fn join(self, other: Self) -> Self

@@ -3,17 +3,16 @@ use Rattle.std.proofs.Common.{◌≡◌, ℕ, ◌<◌, ◌≤◌, false, List, l
 use Rattle.std.specs.Option.{option_map}
 use Rattle.std.specs.List.{slice_get}
 use Rattle.std.proofs.lemmas.List.{map-set, length-map, set_past}
-use Rattle.std.proofs.lemmas.Option.{slice_get_read, slice_get_past}
-use Rattle.floor.proofs.FloorFacts.{nth_map}
+use Rattle.std.proofs.lemmas.Option.{slice_get_read, slice_get_past, slice_get-map}
 use Rattle.tree.specs.Tree.{Entry, entry_of, tree_of, close_at}
 use Rattle.tree.specs.declared.record.Record.{Record}
 
 module _ {T : Type 0} (rs : List (Record T)) (p : ℕ) where
   pub entry_read : (r : Record T) → p < length rs → r ≡ get_or rs p r → Some (entry_of r) ≡ slice_get (tree_of rs) p
-  entry_read r h e = sym (nth_map entry_of rs p ∙ ap (option_map entry_of) (slice_get_read rs (length rs) p r refl h e))
+  entry_read r h e = sym (slice_get-map entry_of rs p ∙ ap (option_map entry_of) (slice_get_read rs (length rs) p r refl h e))
 
   pub entry_past : length rs ≤ p → None ≡ slice_get (tree_of rs) p
-  entry_past h = sym (nth_map entry_of rs p ∙ ap (option_map entry_of) (slice_get_past rs p h))
+  entry_past h = sym (slice_get-map entry_of rs p ∙ ap (option_map entry_of) (slice_get_past rs p h))
 
   -- a record that is written
   pub tree_set : (r : Record T) → tree_of (set rs p r) ≡ set (tree_of rs) p (entry_of r)

@@ -15,10 +15,10 @@ module _ {A : Type 0} where
   drop_end (y ∷ ys) zero e = absurd (let z : ◌≡◌ {A = ℕ} 0 1 = cc in omega arith)
   drop_end (y ∷ ys) (suc k) e = drop_end ys k e
 
-  pub nth_below : (xs : List A) (k : ℕ) (x : A) → slice_get xs k ≡ Some x → k < length xs
-  nth_below [] k x e = absurd (let z : ◌≡◌ {A = ℕ} 0 1 = cc in omega arith)
-  nth_below (y ∷ ys) zero x e = omega arith
-  nth_below (y ∷ ys) (suc k) x e = let b = nth_below ys k x e in omega arith
+  pub slice_get_within : (xs : List A) (k : ℕ) (x : A) → slice_get xs k ≡ Some x → k < length xs
+  slice_get_within [] k x e = absurd (let z : ◌≡◌ {A = ℕ} 0 1 = cc in omega arith)
+  slice_get_within (y ∷ ys) zero x e = omega arith
+  slice_get_within (y ∷ ys) (suc k) x e = let b = slice_get_within ys k x e in omega arith
 
   -- an element that is within the list
   pub nth_there : (xs : List A) (k : ℕ) → k < length xs → (x : A) × (slice_get xs k ≡ Some x)

@@ -2,6 +2,7 @@ ghost use Rattle.std.specs.Prelude.{◌≡◌};
 ghost use Rattle.floor.specs.Grid.{hall_meaning};
 
 use super::Hall;
+use super::direction::Direction;
 use super::lanes::pick;
 use crate::floor::Floor;
 use toll::{Refusal, Seconds, Toll};
@@ -26,33 +27,21 @@ impl Floor for Hall {
         if cell >= self.size() {
             return None;
         }
-        match self.next(cell, lane % 4) {
-            Some(neighbour) => Some((cell, neighbour)),
-            None => None,
-        }
+        let neighbour = self.next(cell, Direction::of(lane))?;
+        Some((cell, neighbour))
     }
 
     fn lane_toll(&self, lane: u16) -> Option<Seconds> {
-        match self.lane_ends(lane) {
-            Some((_, entered)) => self.spot_toll(entered),
-            None => None,
-        }
+        let (_, entered) = self.lane_ends(lane)?;
+        self.spot_toll(entered)
     }
 
     fn spot_toll(&self, spot: u16) -> Option<Seconds> {
-        if spot < self.size() {
-            Some(Seconds::new(self.cells.toll(spot)))
-        } else {
-            None
-        }
+        (spot < self.size()).then(|| Seconds::new(self.cells.toll(spot)))
     }
 
     fn least_toll(&self, spot: u16) -> Option<Seconds> {
-        if spot < self.size() {
-            Some(self.least)
-        } else {
-            None
-        }
+        (spot < self.size()).then_some(self.least)
     }
 
     fn lane_out(&self, place: u16, k: u16) -> Option<u16> {
@@ -60,10 +49,10 @@ impl Floor for Hall {
             return None;
         }
         let found = [
-            self.lane_towards(place, 0),
-            self.lane_towards(place, 1),
-            self.lane_towards(place, 2),
-            self.lane_towards(place, 3),
+            self.lane_towards(place, Direction::Up),
+            self.lane_towards(place, Direction::Right),
+            self.lane_towards(place, Direction::Down),
+            self.lane_towards(place, Direction::Left),
         ];
         pick(&found, k)
     }
@@ -74,10 +63,10 @@ impl Floor for Hall {
             return None;
         }
         let found = [
-            self.lane_back(place, 0),
-            self.lane_back(place, 3),
-            self.lane_back(place, 1),
-            self.lane_back(place, 2),
+            self.lane_back(place, Direction::Up),
+            self.lane_back(place, Direction::Left),
+            self.lane_back(place, Direction::Right),
+            self.lane_back(place, Direction::Down),
         ];
         pick(&found, k)
     }

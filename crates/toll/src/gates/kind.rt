@@ -35,11 +35,7 @@ impl Toll for Gates {
     ghost lawful = { gates_lawful };
 
     fn at_most(self, other: Gates) -> bool {
-        if self.gates == other.gates {
-            self.seconds <= other.seconds
-        } else {
-            self.gates < other.gates
-        }
+        self <= other
     }
 
     fn join(self, other: Gates) -> Gates {

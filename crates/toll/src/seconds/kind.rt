@@ -27,7 +27,7 @@ impl Toll for Seconds {
     ghost lawful = { seconds_lawful };
 
     fn at_most(self, other: Seconds) -> bool {
-        self.value <= other.value
+        self <= other
     }
 
     fn join(self, other: Seconds) -> Seconds {

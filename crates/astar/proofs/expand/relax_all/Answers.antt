@@ -1,20 +1,20 @@
 use Rattle.std.proofs.Common.{sym, arith}
+use Rattle.std.proofs.lemmas.Option.{slice_get_within}
 use Rattle.floor.specs.Meaning.{into}
 use Rattle.floor.proofs.FloorFacts.{listed_few}
-use Rattle.tree.proofs.Items.{nth_below}
 use Rattle.astar.proofs.Expanding.{relax_more, relax_end}
 use Rattle.astar.proofs.expand.relax_all.Goals as goal
 
 pub overflow_add-k : goal.overflow_add-k
 overflow_add-k g c =
     let m = g.F.Floor.meaning c.args.floor.now in
-    let b = nth_below (into m c.args.place) c.loop-lane.k c.in-Some.lane (sym c.in-Some.ensures) in
+    let b = slice_get_within (into m c.args.place) c.loop-lane.k c.in-Some.lane (sym c.in-Some.ensures) in
     omega (arith, listed_few m (λ x. x.enters) c.args.place, c.laws_hold.ensures.few_lanes)
 
 pub loop-lane-smaller : goal.loop-lane-smaller
 loop-lane-smaller g c =
     let m = g.F.Floor.meaning c.args.floor.now in
-    let b = nth_below (into m c.args.place) c.loop-lane.k c.in-Some.lane (sym c.in-Some.ensures) in
+    let b = slice_get_within (into m c.args.place) c.loop-lane.k c.in-Some.lane (sym c.in-Some.ensures) in
     omega arith
 
 pub loop-lane-preserved : goal.loop-lane-preserved

@@ -1,7 +1,7 @@
 use Rattle.std.proofs.Common.{sym, ◌∙◌, arith}
+use Rattle.std.proofs.lemmas.Option.{slice_get_within}
 use Rattle.floor.specs.Meaning.{out_of}
 use Rattle.floor.proofs.FloorFacts.{listed_few}
-use Rattle.tree.proofs.Items.{nth_below}
 use Rattle.tree.proofs.Walking.{passed_on, arrived, no_lane}
 use Rattle.tree.proofs.way.toll_between.Goals as goal
 
@@ -12,13 +12,13 @@ returns-then-enters g c =
 pub overflow_add-k : goal.overflow_add-k
 overflow_add-k g c =
     let m = g.F.Floor.meaning c.args.floor.now in
-    let b = nth_below (out_of m c.args.from) c.loop-lane.k c.in-Some.lane (sym c.in-Some.ensures) in
+    let b = slice_get_within (out_of m c.args.from) c.loop-lane.k c.in-Some.lane (sym c.in-Some.ensures) in
     omega (arith, listed_few m (λ x. x.leaves) c.args.from, c.laws_hold.ensures.few_lanes)
 
 pub loop-lane-smaller : goal.loop-lane-smaller
 loop-lane-smaller g c =
     let m = g.F.Floor.meaning c.args.floor.now in
-    let b = nth_below (out_of m c.args.from) c.loop-lane.k c.in-Some.lane (sym c.in-Some.ensures) in
+    let b = slice_get_within (out_of m c.args.from) c.loop-lane.k c.in-Some.lane (sym c.in-Some.ensures) in
     omega arith
 
 pub loop-lane-preserved : goal.loop-lane-preserved
