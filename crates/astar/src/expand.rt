@@ -3,7 +3,7 @@ ghost use Rattle.floor.specs.Meaning.{lane_toll, into};
 ghost use Rattle.tree.specs.Tree.{tree_of};
 ghost use Rattle.astar.specs.Search.{improves as improves_on, offer as offered, offer_lane, relaxed, expand as expanded};
 
-use floor::Floor;
+use floor::{Floor, Lanes};
 use toll::Toll;
 use tree::Record;
 use tree::table::{close, enter, toll_at};
@@ -12,13 +12,7 @@ use tree::table::{close, enter, toll_at};
 pub fn improves<T: Toll>(held: Option<T>, toll: T) -> bool
     ensures { result ≡ improves_on T.Toll.tolls held toll }
 {
-    if T::shut().at_most(toll) {
-        return false;
-    }
-    match held {
-        Some(held) => !held.at_most(toll),
-        None => true,
-    }
+    toll.is_below(T::shut()) && held.is_none_or(|held| toll.is_below(held))
 }
 
 /// Records a toll and a next place, and opens the place, if that improves it.
@@ -40,10 +34,8 @@ pub fn relax<T: Toll, F: Floor<Toll = T>>(
 )
     ensures { tree_of table.new ≡ offer_lane T.Toll.tolls place toll ((F.Floor.meaning floor.now).lane lane) (lane_toll (F.Floor.meaning floor.now) lane) (tree_of table.old) }
 {
-    if let Some((from, _)) = floor.lane_ends(lane) {
-        if let Some(cost) = floor.lane_toll(lane) {
-            offer(table, from, place, cost.join(toll));
-        }
+    if let (Some((from, _)), Some(cost)) = (floor.lane_ends(lane), floor.lane_toll(lane)) {
+        offer(table, from, place, cost.join(toll));
     }
 }
 
@@ -56,11 +48,8 @@ pub fn relax_all<T: Toll, F: Floor<Toll = T>>(
 )
     ensures { tree_of table.new ≡ relaxed T.Toll.tolls (F.Floor.meaning floor.now) place toll (into (F.Floor.meaning floor.now) place) (tree_of table.old) }
 {
-    floor.laws_hold();
-    let mut k = 0;
-    while let Some(lane) = floor.lane_into(place, k) {
+    for lane in Lanes::into(floor, place) {
         relax(table, floor, place, toll, lane);
-        k += 1;
     }
 }
 

@@ -16,10 +16,7 @@ impl<T: Toll> Key<T> {
     pub fn of<F: Floor<Toll = T>>(floor: &F, from: u16, place: u16, toll: T) -> Self
         ensures { result ≡ key_of T.Toll.tolls (F.Floor.meaning floor.now) from place toll }
     {
-        let estimate = match floor.estimate(from, place) {
-            Some(estimate) => estimate,
-            None => T::zero(),
-        };
+        let estimate = floor.estimate(from, place).unwrap_or(T::zero());
         Key {
             far: estimate.join(toll),
             near: toll,
@@ -30,12 +27,7 @@ impl<T: Toll> Key<T> {
     pub fn at_most(self, other: Self) -> bool
         ensures { result ≡ key_le T.Toll.tolls self other }
     {
-        if !self.far.at_most(other.far) {
-            return false;
-        }
-        if !other.far.at_most(self.far) {
-            return true;
-        }
-        self.near.at_most(other.near)
+        self.far.at_most(other.far)
+            && (self.far.is_below(other.far) || self.near.at_most(other.near))
     }
 }

@@ -1,5 +1,5 @@
 /// How a search ends.
-#[derive(Clone, Copy)]
+#[derive(Clone, Copy, PartialEq, Eq, Debug)]
 pub enum Outcome {
     /// The recorded way from the carrier's place is found.
     Solved,

@@ -20,10 +20,7 @@ fn key_of<T: Toll, F: Floor<Toll = T>>(
 ) -> Option<Key<T>>
     ensures { result ≡ option_map (key_of T.Toll.tolls (F.Floor.meaning floor.now) from place) toll }
 {
-    match toll {
-        Some(toll) => Some(Key::of(floor, from, place, toll)),
-        None => None,
-    }
+    toll.map(|toll| Key::of(floor, from, place, toll))
 }
 
 /// The better of the best so far and one more place; the best so far stays where the tolls are the same.
@@ -37,12 +34,10 @@ fn better<T: Toll>(
     let Some(key) = key else {
         return best;
     };
-    if let Some((held, held_key)) = best {
-        if held_key.at_most(key) {
-            return Some((held, held_key));
-        }
+    match best {
+        Some((first, held)) if held.at_most(key) => Some((first, held)),
+        _ => Some((place, key)),
     }
-    Some((place, key))
 }
 
 /// The open place with the smallest key seen from the carrier's place; ties go to the smaller number.

@@ -27,10 +27,6 @@ pub some_columns : (h w c : ℕ) → c < h * w → 0 < w
 some_columns h zero c l = absurd (omega (arith, mul-zero h))
 some_columns h (suc w) c l = omega arith
 
-pub row_fits : (h w c : ℕ) → c < h * w → w ≤ h * w
-row_fits zero w c l = absurd (omega (arith, zero-mul w))
-row_fits (suc h) w c l = omega (arith, suc-mul h w)
-
 -- one to the right stays in the row
 pub right_mod : (w c : ℕ) → 0 < w → c % w + 1 < w → ((c + 1) % w ≡ c % w + 1) × ((c + 1) / w ≡ c / w)
 right_mod w c p h =

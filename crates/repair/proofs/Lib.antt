@@ -1,5 +1,4 @@
 pub mod Onward
-pub mod Somes
 pub mod Repairing
 pub mod ByPlace
 pub mod Mending

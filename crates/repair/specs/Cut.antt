@@ -6,6 +6,7 @@
 -- drops m k t E p              whether place p is dropped
 -- repaired m k t shift E       the tree afterwards
 use Rattle.std.specs.Prelude.{ℕ, zero, suc, Bool, false, cond, ◌&&◌, ◌||◌, List, [], ◌∷◌, length, is_some, Some, None, Option, ◌==◌}
+use Rattle.std.specs.List.{list_any}
 use Rattle.toll.specs.Tolls.{Tolls}
 use Rattle.floor.specs.Meaning.{Meaning, Lane, has, into, of_spot}
 use Rattle.tree.specs.Tree.{Entry, toll_at, next_at, blank_entry, marked, opened_if}
@@ -18,8 +19,7 @@ shift_of A old new = cond (A.le new old) (cond (A.le old new) Same Cheaper) Dear
 
 -- whether some item passes the test
 abbrev pub some : {X : Type 0} → (X → Bool) → List X → Bool
-some f [] = false
-some f (x ∷ xs) = f x || some f xs
+some f xs = list_any f xs
 
 -- each item by its place number, the first of which is n
 abbrev pub by_place_from : {X Y : Type 0} → (ℕ → X → Y) → ℕ → List X → List Y

@@ -3,7 +3,7 @@ ghost use Rattle.tree.specs.Tree.{tree_of, alter, marks_of, opened_if};
 ghost use Rattle.repair.specs.Cut.{shift_of, by_place, leads as leads_from, joins as joined_by, uses_spot, drops as dropped_by, marks, leaves_marked, beside_marked, entered_by, cut_at, repaired};
 
 use crate::shift::Shift;
-use floor::Floor;
+use floor::{Floor, Lanes};
 use toll::Toll;
 use tree::Record;
 use tree::table::{is_marked, next_at, open, set_mark, take_out, toll_at};
@@ -13,9 +13,9 @@ use tree::way::enters;
 pub fn shift<T: Toll>(old: T, new: T) -> Shift
     ensures { result ≡ shift_of T.Toll.tolls old new }
 {
-    if !new.at_most(old) {
+    if old.is_below(new) {
         Shift::Dearer
-    } else if !old.at_most(new) {
+    } else if new.is_below(old) {
         Shift::Cheaper
     } else {
         Shift::Same
@@ -26,40 +26,23 @@ pub fn shift<T: Toll>(old: T, new: T) -> Shift
 fn leads<F: Floor>(floor: &F, lane: u16, from: u16, to: u16) -> bool
     ensures { result ≡ leads_from from to ((F.Floor.meaning floor.now).lane lane) }
 {
-    match floor.lane_ends(lane) {
-        Some((left, entered)) => left == from && entered == to,
-        None => false,
-    }
+    floor
+        .lane_ends(lane)
+        .is_some_and(|(left, entered)| left == from && entered == to)
 }
 
 /// Whether a lane of the spot leads from one place to the other.
 fn joins<F: Floor>(floor: &F, spot: u16, from: u16, to: u16) -> bool
     ensures { result ≡ joined_by (F.Floor.meaning floor.now) spot from to }
 {
-    floor.laws_hold();
-    let mut k = 0;
-    while let Some(lane) = floor.lane_of_spot(spot, k) {
-        if leads(floor, lane, from, to) {
-            return true;
-        }
-        k += 1;
-    }
-    false
+    Lanes::of_spot(floor, spot).any(|lane| leads(floor, lane, from, to))
 }
 
 /// Whether a lane of the spot enters the place.
 fn entered_by<F: Floor>(floor: &F, spot: u16, place: u16) -> bool
     ensures { result ≡ entered_by (F.Floor.meaning floor.now) spot place }
 {
-    floor.laws_hold();
-    let mut k = 0;
-    while let Some(lane) = floor.lane_of_spot(spot, k) {
-        if enters(floor, lane, place) {
-            return true;
-        }
-        k += 1;
-    }
-    false
+    Lanes::of_spot(floor, spot).any(|lane| enters(floor, lane, place))
 }
 
 /// Whether the recorded way from a place uses a lane of the spot.
@@ -118,25 +101,16 @@ fn mark<T: Toll, F: Floor<Toll = T>>(table: &mut [Record<T>], floor: &F, target:
 fn leaves_marked<T: Toll, F: Floor<Toll = T>>(table: &[Record<T>], floor: &F, lane: u16) -> bool
     ensures { result ≡ leaves_marked (marks_of table.now) ((F.Floor.meaning floor.now).lane lane) }
 {
-    match floor.lane_ends(lane) {
-        Some((left, _)) => is_marked(table, left),
-        None => false,
-    }
+    floor
+        .lane_ends(lane)
+        .is_some_and(|(left, _)| is_marked(table, left))
 }
 
 /// Whether a lane from a marked place enters the place.
 fn beside_marked<T: Toll, F: Floor<Toll = T>>(table: &[Record<T>], floor: &F, place: u16) -> bool
     ensures { result ≡ beside_marked (F.Floor.meaning floor.now) (marks_of table.now) place }
 {
-    floor.laws_hold();
-    let mut k = 0;
-    while let Some(lane) = floor.lane_into(place, k) {
-        if leaves_marked(table, floor, lane) {
-            return true;
-        }
-        k += 1;
-    }
-    false
+    Lanes::into(floor, place).any(|lane| leaves_marked(table, floor, lane))
 }
 
 /// Drops a marked place, and opens a place of the tree beside a marked one.

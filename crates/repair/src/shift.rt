@@ -1,5 +1,5 @@
 /// What became of a toll.
-#[derive(Clone, Copy)]
+#[derive(Clone, Copy, PartialEq, Eq, Debug)]
 pub enum Shift {
     Dearer,
     Cheaper,

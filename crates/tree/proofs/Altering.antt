@@ -5,10 +5,10 @@ use Rattle.tree.specs.Tree.{alter}
 
 module _ {X : Type 0} where
   -- an item that is there, and one that is not
-  pub alter_at : (f : X → X) (xs : List X) (p : ℕ) (x : X) → p < length xs → x ≡ get_or xs p x → set xs p (f x) ≡ alter f xs p
-  alter_at f [] p x h e = absurd (omega arith)
-  alter_at f (y ∷ ys) zero x h e = ap (λ (z : X). f z ∷ ys) e
-  alter_at f (y ∷ ys) (suc p) x h e = ap (λ zs. y ∷ zs) (alter_at f ys p x (omega arith) e)
+  pub alter_at : (f : X → X) (xs : List X) (p : ℕ) (d : X) → p < length xs → set xs p (f (get_or xs p d)) ≡ alter f xs p
+  alter_at f [] p d h = absurd (omega arith)
+  alter_at f (y ∷ ys) zero d h = refl
+  alter_at f (y ∷ ys) (suc p) d h = ap (λ zs. y ∷ zs) (alter_at f ys p d (omega arith))
 
   pub alter_past : (f : X → X) (xs : List X) (p : ℕ) → length xs ≤ p → xs ≡ alter f xs p
   alter_past f [] p h = refl
@@ -23,15 +23,15 @@ module _ {X : Type 0} where
 
   -- what the items of another list stand for, one of which is written
   module _ {Y : Type 0} (v : Y → X) (ys : List Y) (p : ℕ) where
-    pub map_alter : (f : X → X) (y y' : Y) → p < length ys → y ≡ get_or ys p y → v y' ≡ f (v y) → map v (set ys p y') ≡ alter f (map v ys) p
-    map_alter f y y' h e q =
-        map-set v ys p y' ∙ ap (set (map v ys) p) q ∙ alter_at f (map v ys) p (v y) (omega (arith, length-map ys v)) (ap v e ∙ sym (get_or-map v ys p y (v y) h))
-
-    pub map_stays : (f : X → X) (y : Y) → p < length ys → y ≡ get_or ys p y → v y ≡ f (v y) → map v ys ≡ alter f (map v ys) p
-    map_stays f y h e q = ap (map v) (sym (ap (set ys p) e ∙ set-get_or ys p y)) ∙ map_alter f y y h e q
+    pub map_alter : (f : X → X) (d y : Y) → p < length ys → v y ≡ f (v (get_or ys p d)) → map v (set ys p y) ≡ alter f (map v ys) p
+    map_alter f d y h q =
+        map-set v ys p y ∙ ap (set (map v ys) p) (q ∙ ap f (sym (get_or-map v ys p d (v d) h))) ∙ alter_at f (map v ys) p (v d) (omega (arith, length-map ys v))
 
     pub map_past : (f : X → X) → length ys ≤ p → map v ys ≡ alter f (map v ys) p
     map_past f h = alter_past f (map v ys) p (omega (arith, length-map ys v))
 
-    pub map_kept : (y y' : Y) → p < length ys → y ≡ get_or ys p y → v y' ≡ v y → map v (set ys p y') ≡ map v ys
-    map_kept y y' h e q = map_alter (λ x. x) y y' h e q ∙ sym (alter_same (map v ys) p)
+    pub map_kept : (d y : Y) → p < length ys → v y ≡ v (get_or ys p d) → map v (set ys p y) ≡ map v ys
+    map_kept d y h q = map_alter (λ x. x) d y h q ∙ sym (alter_same (map v ys) p)
+
+    pub map_stays : (f : X → X) (d : Y) → p < length ys → v (get_or ys p d) ≡ f (v (get_or ys p d)) → map v ys ≡ alter f (map v ys) p
+    map_stays f d h q = ap (map v) (sym (set-get_or ys p d)) ∙ map_alter f d (get_or ys p d) h q

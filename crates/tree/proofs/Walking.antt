@@ -1,49 +1,15 @@
 -- The code's walk along next places against its definitions.
-use Rattle.std.proofs.Common.{◌≡◌, ℕ, zero, suc, ◌+◌, ◌-◌, ◌<◌, ◌≤◌, Bool, true, false, cond, eqb, List, [], ◌∷◌, ◌++◌, length, take, drop, set, Some, None, Option, unwrap_or, sym, refl, ap, ◌∙◌, arith}
+use Rattle.std.proofs.Common.{◌≡◌, ℕ, zero, suc, ◌+◌, ◌-◌, ◌<◌, ◌≤◌, Bool, true, false, cond, List, [], ◌∷◌, ◌++◌, length, take, drop, set, Some, None, Option, unwrap_or, sym, refl, ap, ◌∙◌, arith}
 use Rattle.std.specs.Option.{option_map}
-use Rattle.std.specs.List.{slice_get}
 use Rattle.std.proofs.lemmas.List.{take_more_set, append_assoc, append-nil, take-append-drop, drop-set-lt, drop-drop}
 use Rattle.std.proofs.lemmas.Bool.{eq-eqb, ne_eqb}
 use Rattle.toll.specs.Tolls.{Tolls, TollLaws}
-use Rattle.floor.specs.Meaning.{Lane, Meaning, then, has, lane_toll, lane_ends, out_of}
+use Rattle.floor.specs.Meaning.{Meaning, then}
 use Rattle.tree.specs.declared.record.Record.{Record}
 use Rattle.tree.specs.Tree.{Entry, tree_of, toll_at, next_at}
-use Rattle.tree.specs.Ways.{entering, lane_between, toll_between, way_toll, recorded, same_toll, borne_out, traced, walked, trail}
+use Rattle.tree.specs.Ways.{toll_between, way_toll, recorded, same_toll, borne_out, traced, walked, trail}
 use Rattle.tree.specs.declared.trace.Trace.{Trace}
 use Rattle.tree.proofs.Entries.{tree_length}
-use Rattle.tree.proofs.Items.{drop_at, drop_end}
-
--- the run for a lane among those out of a place
-module _ {T : Type 0} (m : Meaning T) (p q : ℕ) (k l : ℕ) (inv : entering m q (drop k (out_of m p)) ≡ lane_between m p q) (at : slice_get (out_of m p) k ≡ Some l) where
-  step : cond (has (λ x. x.enters) q (m.lane l)) (Some l) (entering m q (drop (k + 1) (out_of m p))) ≡ lane_between m p q
-  step = sym (ap (entering m q) (drop_at (out_of m p) k l at)) ∙ inv
-
-  pub passed_on : has (λ x. x.enters) q (m.lane l) ≡ false → entering m q (drop (k + 1) (out_of m p)) ≡ lane_between m p q
-  passed_on e = sym (ap (λ b. cond b (Some l) (entering m q (drop (k + 1) (out_of m p)))) e) ∙ step
-
-  pub arrived : has (λ x. x.enters) q (m.lane l) ≡ true → (c : Option T) → c ≡ lane_toll m l → c ≡ toll_between m p q
-  arrived e c t = t ∙ ap (λ o. then o (λ n. lane_toll m n)) (sym (ap (λ b. cond b (Some l) (entering m q (drop (k + 1) (out_of m p)))) e) ∙ step)
-
-pub no_lane : {T : Type 0} (m : Meaning T) (p q k : ℕ) → entering m q (drop k (out_of m p)) ≡ lane_between m p q → slice_get (out_of m p) k ≡ None → None ≡ toll_between m p q
-no_lane m p q k inv e = ap (λ o. then o (λ n. lane_toll m n)) (sym (ap (entering m q) (drop_end (out_of m p) k e)) ∙ inv)
-
-abbrev ends_of : Lane → ℕ × ℕ
-ends_of x = (x.leaves, x.enters)
-
--- where a lane's ends are known, so is whether it enters q
-pub ends_enter : {T : Type 0} (m : Meaning T) (l a b q : ℕ) → ◌≡◌ {A = Option (ℕ × ℕ)} (Some (a, b)) (lane_ends m l) → has (λ x. x.enters) q (m.lane l) ≡ eqb b q
-ends_enter m l a b q e = go (m.lane l) e
-  where
-    go : (o : Option Lane) → ◌≡◌ {A = Option (ℕ × ℕ)} (Some (a, b)) (option_map ends_of o) → has (λ x. x.enters) q o ≡ eqb b q
-    go None f = absurd (let z : ◌≡◌ {A = ℕ} 0 1 = cc in omega arith)
-    go (Some x) f = let r : ◌≡◌ {A = ℕ × ℕ} (a, b) (ends_of x) = cc in ap (λ (n : ℕ). eqb n q) (sym (ap (λ (v : ℕ × ℕ). v.1) r))
-
-pub no_ends : {T : Type 0} (m : Meaning T) (l q : ℕ) → None ≡ lane_ends m l → has (λ x. x.enters) q (m.lane l) ≡ false
-no_ends m l q e = go (m.lane l) e
-  where
-    go : (o : Option Lane) → None ≡ option_map ends_of o → has (λ x. x.enters) q o ≡ false
-    go None f = refl
-    go (Some x) f = absurd (let z : ◌≡◌ {A = ℕ} 0 1 = cc in omega arith)
 
 -- the same after one lane more
 abbrev one_more : {T : Type 0} → Tolls T → T → Trace T → Trace T
@@ -171,15 +137,6 @@ module _ {T : Type 0} (A : Tolls T) (m : Meaning T) (rs : List (Record T)) (t s 
   by_walk : option_map trace_of (borne_out A m (tree_of rs) t s) ≡ then (walked A m (tree_of rs) t (length rs - 1) s) (judged A (toll_at (tree_of rs) s))
   by_walk = borne_walk A m (tree_of rs) t s ∙ ap (λ (n : ℕ). then (walked A m (tree_of rs) t (n - 1) s) (judged A (toll_at (tree_of rs) s))) (tree_length rs 0)
 
-  pub borne_none : None ≡ walked A m (tree_of rs) t (length rs - 1) s → None ≡ option_map trace_of (borne_out A m (tree_of rs) t s)
-  borne_none e = sym (by_walk ∙ sym (ap (λ o. then o (judged A (toll_at (tree_of rs) s))) e))
-
   module _ (r : Trace T) (e : Some r ≡ walked A m (tree_of rs) t (length rs - 1) s) (h : Option T) (q : h ≡ toll_at (tree_of rs) s) where
     after : option_map trace_of (borne_out A m (tree_of rs) t s) ≡ judged A h r
     after = by_walk ∙ sym (ap (λ o. then o (judged A (toll_at (tree_of rs) s))) e) ∙ ap (λ o. judged A o r) (sym q)
-
-    pub borne_taken : same_toll A r.toll h ≡ true → Some r ≡ option_map trace_of (borne_out A m (tree_of rs) t s)
-    borne_taken b = sym (after ∙ ap (λ v. cond v (Some r) None) b)
-
-    pub borne_left : same_toll A r.toll h ≡ false → None ≡ option_map trace_of (borne_out A m (tree_of rs) t s)
-    borne_left b = sym (after ∙ ap (λ v. cond v (Some r) None) b)

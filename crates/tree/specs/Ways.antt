@@ -7,6 +7,7 @@
 -- next_step m E p               the next place of p, if a lane leads there
 use Rattle.std.specs.Prelude.{◌≡◌, ℕ, zero, suc, ◌-◌, Bool, false, cond, ◌&&◌, List, [], ◌∷◌, length, Some, None, Option, ◌==◌}
 use Rattle.std.specs.Option.{option_map, unwrap_or}
+use Rattle.std.specs.List.{find}
 use Rattle.toll.specs.Tolls.{Tolls, Le}
 use Rattle.floor.specs.Meaning.{Meaning, then, has, lane_toll, out_of}
 use Rattle.tree.specs.declared.trace.Trace.{Trace}
@@ -14,8 +15,7 @@ use Rattle.tree.specs.Tree.{Entry, toll_at, next_at}
 
 -- the first of some lanes that enters q
 abbrev pub entering : {T : Type 0} → Meaning T → ℕ → List ℕ → Option ℕ
-entering m q [] = None
-entering m q (l ∷ ls) = cond (has (λ x. x.enters) q (m.lane l)) (Some l) (entering m q ls)
+entering m q ls = find (λ l. has (λ x. x.enters) q (m.lane l)) ls
 
 -- the lane from p to q
 abbrev pub lane_between : {T : Type 0} → Meaning T → (p q : ℕ) → Option ℕ

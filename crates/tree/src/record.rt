@@ -2,7 +2,7 @@ ghost use Rattle.std.specs.Prelude.{◌≡◌};
 ghost use Rattle.tree.specs.Tree.{entry_of, blank_entry};
 
 /// What the planner keeps of one place: the toll to the target, the next place, whether it is open.
-#[derive(Clone, Copy)]
+#[derive(Clone, Copy, PartialEq, Eq, Debug)]
 pub struct Record<T> {
     pub(crate) toll: Option<T>,
     pub(crate) next: Option<u16>,

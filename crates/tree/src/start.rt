@@ -9,6 +9,7 @@ use toll::Toll;
 fn clear<T: Toll>(table: &mut [Record<T>])
     ensures { tree_of table.new ≡ replicate (length table.old) blank_entry }
 {
+    // By index: `fill_with` does not take a maker of a generic record, and `fill` leaves a generic clone untold.
     for i in 0..table.len() {
         table[i] = Record::blank();
     }

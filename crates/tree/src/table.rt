@@ -10,43 +10,32 @@ use toll::Toll;
 pub fn record_at<T: Toll>(table: &[Record<T>], place: u16) -> Option<Record<T>>
     ensures { option_map entry_of result ≡ slice_get (tree_of table.now) place }
 {
-    let at = place as usize;
-    if at < table.len() {
-        Some(table[at])
-    } else {
-        None
-    }
+    table.get(place as usize).copied()
 }
 
 /// The recorded toll of a place in the tree.
 pub fn toll_at<T: Toll>(table: &[Record<T>], place: u16) -> Option<T>
     ensures { result ≡ toll_at (tree_of table.now) place }
 {
-    match record_at(table, place) {
-        Some(record) => record.toll,
-        None => None,
-    }
+    record_at(table, place)?.toll
 }
 
 /// The next place of a place.
 pub fn next_at<T: Toll>(table: &[Record<T>], place: u16) -> Option<u16>
     ensures { result ≡ next_at (tree_of table.now) place }
 {
-    match record_at(table, place) {
-        Some(record) => record.next,
-        None => None,
-    }
+    record_at(table, place)?.next
 }
 
 /// The recorded toll of an open place.
 pub fn open_toll<T: Toll>(table: &[Record<T>], place: u16) -> Option<T>
     ensures { result ≡ open_toll (tree_of table.now) place }
 {
-    match record_at(table, place) {
-        Some(record) => if record.is_open { record.toll } else { None },
-        None => None,
-    }
+    let record = record_at(table, place)?;
+    if record.is_open { record.toll } else { None }
 }
+
+// Writes go by index: after a slice's `get_mut` a proof knows the slice's length alone.
 
 /// Writes the record of a place, if there is one.
 pub(crate) fn write<T: Toll>(table: &mut [Record<T>], place: u16, written: Record<T>)
@@ -80,13 +69,7 @@ pub fn close<T: Toll>(table: &mut [Record<T>], place: u16)
 {
     let at = place as usize;
     if at < table.len() {
-        let record = table[at];
-        table[at] = Record {
-            toll: record.toll,
-            next: record.next,
-            is_open: false,
-            is_cut: record.is_cut,
-        };
+        table[at].is_open = false;
     }
 }
 
@@ -96,14 +79,8 @@ pub fn open<T: Toll>(table: &mut [Record<T>], place: u16)
     ensures marks { marks_of table.new ≡ marks_of table.old }
 {
     let at = place as usize;
-    if at < table.len() {
-        let record = table[at];
-        if record.toll.is_some() {
-            table[at] = Record {
-                is_open: true,
-                ..record
-            };
-        }
+    if at < table.len() && table[at].toll.is_some() {
+        table[at].is_open = true;
     }
 }
 
@@ -114,9 +91,8 @@ pub fn take_out<T: Toll>(table: &mut [Record<T>], place: u16)
 {
     let at = place as usize;
     if at < table.len() {
-        let record = table[at];
         table[at] = Record {
-            is_cut: record.is_cut,
+            is_cut: table[at].is_cut,
             ..Record::blank()
         };
     }
@@ -129,11 +105,7 @@ pub fn set_mark<T: Toll>(table: &mut [Record<T>], place: u16, mark: bool)
 {
     let at = place as usize;
     if at < table.len() {
-        let record = table[at];
-        table[at] = Record {
-            is_cut: mark,
-            ..record
-        };
+        table[at].is_cut = mark;
     }
 }
 
@@ -141,10 +113,7 @@ pub fn set_mark<T: Toll>(table: &mut [Record<T>], place: u16, mark: bool)
 pub fn is_marked<T: Toll>(table: &[Record<T>], place: u16) -> bool
     ensures { result ≡ marked (marks_of table.now) place }
 {
-    let at = place as usize;
-    if at < table.len() {
-        table[at].is_cut
-    } else {
-        false
-    }
+    table
+        .get(place as usize)
+        .is_some_and(|record| record.is_cut)
 }

@@ -7,32 +7,25 @@ ghost use Rattle.tree.specs.Ways.{toll_between, next_step, same_toll, borne_out,
 use crate::record::Record;
 use crate::table::{next_at, toll_at};
 use crate::trace::Trace;
-use floor::Floor;
+use floor::{Floor, Lanes};
 use toll::Toll;
 
 /// Whether there is such a lane, and it enters the place.
 pub fn enters<F: Floor>(floor: &F, lane: u16, place: u16) -> bool
     ensures { result ≡ has (λ x. x.enters) place ((F.Floor.meaning floor.now).lane lane) }
 {
-    match floor.lane_ends(lane) {
-        Some((_, entered)) => entered == place,
-        None => false,
-    }
+    floor
+        .lane_ends(lane)
+        .is_some_and(|(_, entered)| entered == place)
 }
 
 /// The toll of the lane from one place to another.
 pub fn toll_between<F: Floor>(floor: &F, from: u16, to: u16) -> Option<F::Toll>
     ensures { result ≡ toll_between (F.Floor.meaning floor.now) from to }
 {
-    floor.laws_hold();
-    let mut k = 0;
-    while let Some(lane) = floor.lane_out(from, k) {
-        if enters(floor, lane, to) {
-            return floor.lane_toll(lane);
-        }
-        k += 1;
-    }
-    None
+    Lanes::out_of(floor, from)
+        .find(|lane| enters(floor, *lane, to))
+        .and_then(|lane| floor.lane_toll(lane))
 }
 
 /// The place after a place in the tree, if a lane leads there.
@@ -43,13 +36,10 @@ pub fn next_step<T: Toll, F: Floor<Toll = T>>(
 ) -> Option<u16>
     ensures { result ≡ next_step (F.Floor.meaning floor.now) (tree_of table.now) place }
 {
-    match (toll_at(table, place), next_at(table, place)) {
-        (Some(_), Some(next)) => match toll_between(floor, place, next) {
-            Some(_) => Some(next),
-            None => None,
-        },
-        _ => None,
-    }
+    toll_at(table, place)?;
+    let next = next_at(table, place)?;
+    toll_between(floor, place, next)?;
+    Some(next)
 }
 
 /// The toll of the recorded way and the number of its lanes, if it reaches the target within places − 1 lanes and no lane is missing.
@@ -70,12 +60,8 @@ fn walk<T: Toll, F: Floor<Toll = T>>(
         if lanes as usize + 1 >= table.len() {
             return None;
         }
-        let Some(next) = next_at(table, place) else {
-            return None;
-        };
-        let Some(cost) = toll_between(floor, place, next) else {
-            return None;
-        };
+        let next = next_at(table, place)?;
+        let cost = toll_between(floor, place, next)?;
         toll = toll.join(cost);
         place = next;
         lanes += 1;
@@ -87,10 +73,7 @@ fn walk<T: Toll, F: Floor<Toll = T>>(
 fn is_toll<T: Toll>(toll: T, held: Option<T>) -> bool
     ensures { result ≡ same_toll T.Toll.tolls toll held }
 {
-    match held {
-        Some(held) => toll.at_most(held) && held.at_most(toll),
-        None => false,
-    }
+    held.is_some_and(|held| toll.is_same(held))
 }
 
 /// The toll of the recorded way and the number of its lanes, where the floor bears it out.
@@ -104,14 +87,8 @@ pub fn borne_out<T: Toll, F: Floor<Toll = T>>(
     ensures value { result ≡ option_map (λ p. traced p.0 p.1) (borne_out T.Toll.tolls (F.Floor.meaning floor.now) (tree_of table.now) target from) }
     ensures few { IfSome result (λ p. p.lanes ≤ length table.now - 1) }
 {
-    let Some(trace) = walk(table, floor, target, from) else {
-        return None;
-    };
-    if is_toll(trace.toll, toll_at(table, from)) {
-        Some(trace)
-    } else {
-        None
-    }
+    let trace = walk(table, floor, target, from)?;
+    is_toll(trace.toll, toll_at(table, from)).then_some(trace)
 }
 
 /// Writes that many places, each followed by its next place, to the front of the buffer.
@@ -120,6 +97,7 @@ pub fn write_way<T: Toll>(table: &[Record<T>], from: u16, count: u16, way: &mut 
     ensures { way.new ≡ trail (tree_of table.now) count from ++ drop count way.old }
 {
     let mut place = from;
+    // By index, since after `iter_mut` a proof knows the buffer's length alone.
     for i in 0..count {
         way[i as usize] = place;
         place = next_at(table, place).unwrap_or(place);

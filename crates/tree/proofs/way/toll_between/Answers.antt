@@ -1,29 +1,13 @@
-use Rattle.std.proofs.Common.{sym, ◌∙◌, arith}
-use Rattle.std.proofs.lemmas.Option.{slice_get_within}
-use Rattle.floor.specs.Meaning.{out_of}
-use Rattle.floor.proofs.FloorFacts.{listed_few}
-use Rattle.tree.proofs.Walking.{passed_on, arrived, no_lane}
+use Rattle.std.proofs.Common.{sym, ◌∙◌, rules, tests}
+use Rattle.std.proofs.lemmas.Iterator.Adapters.{option_map_id}
+use Rattle.std.proofs.lemmas.Iterator.Search.{find_from_yields_List}
+use Rattle.floor.specs.Meaning.{has, out_of}
+use Rattle.floor.proofs.LaneSteps.{lanes_come}
 use Rattle.tree.proofs.way.toll_between.Goals as goal
 
-pub returns-then-enters : goal.returns-then-enters
-returns-then-enters g c =
-    arrived (g.F.Floor.meaning c.args.floor.now) c.args.from c.args.to c.loop-lane.k c.in-Some.lane c.loop-lane.invariant (sym c.in-Some.ensures) (sym c.enters.ensures ∙ c.if-enters.true) c.lane_toll.result c.lane_toll.ensures
-
-pub overflow_add-k : goal.overflow_add-k
-overflow_add-k g c =
-    let m = g.F.Floor.meaning c.args.floor.now in
-    let b = slice_get_within (out_of m c.args.from) c.loop-lane.k c.in-Some.lane (sym c.in-Some.ensures) in
-    omega (arith, listed_few m (λ x. x.leaves) c.args.from, c.laws_hold.ensures.few_lanes)
-
-pub loop-lane-smaller : goal.loop-lane-smaller
-loop-lane-smaller g c =
-    let m = g.F.Floor.meaning c.args.floor.now in
-    let b = slice_get_within (out_of m c.args.from) c.loop-lane.k c.in-Some.lane (sym c.in-Some.ensures) in
-    omega arith
-
-pub loop-lane-preserved : goal.loop-lane-preserved
-loop-lane-preserved g c =
-    passed_on (g.F.Floor.meaning c.args.floor.now) c.args.from c.args.to c.loop-lane.k c.in-Some.lane c.loop-lane.invariant (sym c.in-Some.ensures) (sym c.enters.ensures ∙ c.if-enters.false)
-
 pub returns : goal.returns
-returns g c = no_lane (g.F.Floor.meaning c.args.floor.now) c.args.from c.args.to c.loop-lane.k c.loop-lane.invariant (sym c.in_default.ensures)
+returns g c =
+    let m = g.F.Floor.meaning c.args.floor.now in
+    let e = sym (option_map_id c.find.result)
+    ∙ find_from_yields_List (λ l. has (λ x. x.enters) c.args.to (m.lane l)) c.find.new.self _ c.find.result c.find.ensures.ran (lanes_come g.F.Floor.meaning c.out_of.result (out_of m c.args.from) c.out_of.ensures) (λ x b q k. search (rules, tests)) in
+    search (rules, tests)

@@ -1,4 +1,4 @@
-use Rattle.std.proofs.Common.{sym, arith}
+use Rattle.std.proofs.Common.{sym, ◌∙◌, arith}
 use Rattle.tree.specs.Tree.{tree_of}
 use Rattle.tree.proofs.Walking.{walk_none, walk_no_next, walk_gap, walk_more, walk_end}
 use Rattle.tree.proofs.way.walk.Goals as goal
@@ -9,22 +9,18 @@ loop-place-init g c = record {
   rest = walk_none g.met.T.Toll.lawful (g.F.Floor.meaning c.args.floor.now) (tree_of c.args.table.now) c.args.target _ c.args.from c.zero-toll.result c.zero-toll.ensures;
 }
 
-pub returns-in_default : goal.returns-in_default
-returns-in_default g c = record {
-  value = walk_no_next g.met.T.Toll.lawful (g.F.Floor.meaning c.args.floor.now) (tree_of c.args.table.now) c.args.target _ c.loop-place.lanes c.loop-place.place c.loop-place.toll _ c.loop-place-test.true (omega arith) c.loop-place.invariant.rest (sym c.in_default.ensures);
-  few = tt;
-}
+pub returns-in_err-next-clause-value : goal.returns-in_err-next-clause-value
+returns-in_err-next-clause-value g c =
+    c.from_residual.ensures ∙ walk_no_next g.met.T.Toll.lawful (g.F.Floor.meaning c.args.floor.now) (tree_of c.args.table.now) c.args.target _ c.loop-place.lanes c.loop-place.place c.loop-place.toll _ c.loop-place-test.true (omega arith) c.loop-place.invariant.rest (sym c.next_at.ensures ∙ c.in_err-next.was)
 
-pub returns-in_default-toll_between : goal.returns-in_default-toll_between
-returns-in_default-toll_between g c = record {
-  value = walk_gap g.met.T.Toll.lawful (g.F.Floor.meaning c.args.floor.now) (tree_of c.args.table.now) c.args.target _ c.loop-place.lanes c.loop-place.place c.loop-place.toll _ c.loop-place-test.true (omega arith) c.loop-place.invariant.rest c.in-Some.next (sym c.in-Some.ensures) (sym c.in_default-toll_between.ensures);
-  few = tt;
-}
+pub returns-in_err-cost-clause-value : goal.returns-in_err-cost-clause-value
+returns-in_err-cost-clause-value g c =
+    c.from_residual-in_err-cost.ensures ∙ walk_gap g.met.T.Toll.lawful (g.F.Floor.meaning c.args.floor.now) (tree_of c.args.table.now) c.args.target _ c.loop-place.lanes c.loop-place.place c.loop-place.toll _ c.loop-place-test.true (omega arith) c.loop-place.invariant.rest c.in_ok-next.next (sym c.next_at.ensures ∙ c.in_ok-next.was) (sym c.toll_between.ensures ∙ c.in_err-cost.was)
 
 pub loop-place-preserved : goal.loop-place-preserved
 loop-place-preserved g c = record {
   few = omega arith;
-  rest = walk_more g.met.T.Toll.lawful (g.F.Floor.meaning c.args.floor.now) (tree_of c.args.table.now) c.args.target _ c.loop-place.lanes c.loop-place.place c.loop-place.toll _ c.loop-place-test.true (omega arith) c.loop-place.invariant.rest c.in-Some.next c.in-Some-toll_between.cost c.join-toll.result (sym c.in-Some.ensures) (sym c.in-Some-toll_between.ensures) c.join-toll.ensures;
+  rest = walk_more g.met.T.Toll.lawful (g.F.Floor.meaning c.args.floor.now) (tree_of c.args.table.now) c.args.target _ c.loop-place.lanes c.loop-place.place c.loop-place.toll _ c.loop-place-test.true (omega arith) c.loop-place.invariant.rest c.in_ok-next.next c.in_ok-cost.cost c.join-toll.result (sym c.next_at.ensures ∙ c.in_ok-next.was) (sym c.toll_between.ensures ∙ c.in_ok-cost.was) c.join-toll.ensures;
 }
 
 pub returns : goal.returns

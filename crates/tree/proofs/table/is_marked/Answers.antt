@@ -1,8 +1,0 @@
-use Rattle.tree.proofs.Marks.{mark_read, mark_past}
-use Rattle.tree.proofs.table.is_marked.Goals as goal
-
-pub returns-then-at-table : goal.returns-then-at-table
-returns-then-at-table g c = mark_read c.args.table.now c.args.place c.index-table-at.result c.if-at-table.true c.index-table-at.is
-
-pub returns-else-at-table : goal.returns-else-at-table
-returns-else-at-table g c = mark_past c.args.table.now c.args.place c.if-at-table.false
