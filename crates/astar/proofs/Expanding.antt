@@ -5,7 +5,7 @@ use Rattle.toll.specs.Tolls.{Tolls}
 use Rattle.floor.specs.Meaning.{Meaning, lane_toll}
 use Rattle.tree.specs.Tree.{Entry, toll_at}
 use Rattle.astar.specs.Search.{improves, offer, offer_lane, relaxed}
-use Rattle.floor.proofs.LaneSteps.{drop_at, drop_end}
+
 
 -- what is offered and taken
 pub offer_taken : {T : Type 0} (A : Tolls T) (p x : ℕ) (t : T) (E E' : List (Entry T)) → improves A (toll_at E p) t ≡ true → E' ≡ set E p (record { toll = Some t; next = Some x; is_open = true }) → E' ≡ offer A p x t E

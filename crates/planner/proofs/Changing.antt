@@ -26,9 +26,3 @@ module _ {T : Type 0} (A : Tolls T) (m : Meaning T) (S : State T) (same : m.plac
     unknown_state = sym (ap (λ (x : Changed T). x.state) whole)
 
 module _ {T : Type 0} (m : Meaning T) (S : State T) (same : m.places ≡ length S.tree) where
-  pub step_goes : (p : ℕ) → p < length S.tree → ¬ (p ≡ S.target) → step_answer m S p ≡ step_to (next_step m S.tree p)
-  step_goes p h ne =
-      let go : Result ℕ Refusal = step_to (next_step m S.tree p) in
-      ap (λ c. cond c (cond (ltb p (length S.tree)) (cond (eqb p S.target) (Err AtTarget) go) (Err UnknownPlace)) (Err OtherFloor)) (eq-eqb m.places (length S.tree) same)
-      ∙ ap (λ c. cond c (cond (eqb p S.target) (Err AtTarget) go) (Err UnknownPlace)) (lt-ltb p (length S.tree) h)
-      ∙ ap (λ c. cond c (Err AtTarget) go) (ne_eqb p S.target ne)

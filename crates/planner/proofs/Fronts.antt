@@ -1,11 +1,12 @@
 -- The front part of the table, a record for each place.
-use Rattle.std.proofs.Common.{◌≡◌, ℕ, ◌<◌, ◌≤◌, min, List, ◌++◌, length, take, drop, Some, None, Ok, Err, Option, sym, refl, ap, ◌∙◌, ⊎_elim, arith, length-take}
+use Rattle.std.proofs.Common.{◌≡◌, ℕ, ◌<◌, ◌≤◌, min, List, ◌++◌, length, take, drop, Some, None, Ok, Err, Option, Result, sym, refl, ap, ◌∙◌, ⊎_elim, arith, length-take}
 use Rattle.std.proofs.lemmas.List.{take_all, take_at, drop_at, drop_all, append-nil}
 use Rattle.std.proofs.lemmas.Bool.Decides.{nat_tests}
 use Rattle.std.proofs.lemmas.Bool.{cases_lt, cond_below, cond_above}
+use Rattle.toll.specs.declared.refusal.Refusal.{Refusal}
 use Rattle.toll.specs.declared.refusal.Refusal.TheVariants.{OtherFloor, UnknownPlace}
 use Rattle.tree.specs.Tree.{Entry, tree_of, toll_at, next_at}
-use Rattle.planner.specs.Calls.{read_answer, route_refused}
+use Rattle.planner.specs.Calls.{put_answer, read_answer, route_refused}
 use Rattle.tree.specs.declared.record.Record.{Record}
 use Rattle.tree.proofs.Entries.{tree_length}
 
@@ -16,13 +17,6 @@ front_same xs p k e = ⊎_elim
 
 pub front_size : {T : Type 0} (rs : List (Record T)) (p : ℕ) → length (tree_of (take p rs)) ≡ min p (length rs)
 front_size rs p = tree_length (take p rs) 0 ∙ length-take p rs
-
--- a reading of a place that is there
-pub read_there : {T : Type 0} (E : List (Entry T)) (p : ℕ) {t : Option T} {n : Option ℕ} → p < length E → t ≡ toll_at E p → n ≡ next_at E p → Ok (record { toll = t; next = n }) ≡ read_answer E p
-read_there E p h e f = (λ i. Ok (record { toll = e i; next = f i })) ∙ cond_below p (length E) _ (Err UnknownPlace) h
-
-pub read_nowhere : {T : Type 0} (E : List (Entry T)) (p : ℕ) → length E ≤ p → Err UnknownPlace ≡ read_answer E p
-read_nowhere E p h = cond_above p (length E) _ (Err UnknownPlace) (Err UnknownPlace) h refl
 
 -- the table after its front part was written
 module _ {A : Type 0} (xs front : List A) (p k : ℕ) (e : k ≡ min p (length xs)) (f : length front ≡ k) where
@@ -42,3 +36,9 @@ route_elsewhere places floor buffer place ne = grind (arith, nat_tests)
 
 pub route_goes : (places floor buffer place : ℕ) → floor ≡ places → places ≤ buffer → place < places → route_refused places floor buffer place ≡ None
 route_goes places floor buffer place e h l = grind (arith, nat_tests)
+
+-- a place that the code took for one is that place
+pub place_known : (places place q : ℕ) → put_answer places place ≡ Ok q → (place < places) × (q ≡ place)
+place_known places place q e = ⊎_elim
+    (λ (h : place < places). (h, let f : ◌≡◌ {A = Result ℕ Refusal} (Ok place) (Ok q) = cond_below place places (Ok place) (Err UnknownPlace) h ∙ e in let r : place ≡ q = cc in sym r))
+    (λ (h : places ≤ place). absurd (let f = cond_above place places (Ok place) (Err UnknownPlace) (Err UnknownPlace) h refl ∙ e in let z : ◌≡◌ {A = ℕ} 0 1 = cc in omega arith)) (cases_lt place places)

@@ -1,4 +1,4 @@
-ghost use Rattle.std.specs.Prelude.{◌≡◌, [], length};
+ghost use Rattle.std.specs.Prelude.{◌≡◌, [], length, take};
 ghost use Rattle.planner.specs.Calls.{state_of, read_answer, put_answer, step_answer};
 ghost use Rattle.floor.specs.Meaning.{Meaning};
 ghost use Rattle.planner.specs.Served.{world_of, turn_of, slip_by, parked_at, under_way_at};
@@ -12,6 +12,7 @@ use crate::carrier::Carrier;
 use crate::slips::{Parked, UnderWay};
 use floor::Floor;
 use toll::{Refusal, Toll};
+use tree::Record;
 use tree::table::{next_at, toll_at};
 use tree::way::next_step;
 
@@ -20,20 +21,22 @@ impl<'t, T: Toll> Planner<'t, T> {
     pub(super) fn size(&self) -> u16
         ensures { result ≡ length (state_of self.now).tree }
     {
-        let records = self.table.len();
-        if records < self.places as usize {
-            records as u16
-        } else {
-            self.places
-        }
+        self.table.len().min(self.places as usize) as u16
     }
 
-    /// The place, if it is one.
-    fn known(&self, place: u32) -> Result<u32, Refusal>
+    /// The records of the places.
+    fn front(&self) -> &[Record<T>]
+        ensures { result.now ≡ take self.now.places self.now.table.now }
+    {
+        &self.table[..self.size() as usize]
+    }
+
+    /// The place as the number of a record, if it is one.
+    pub(super) fn known(&self, place: u32) -> Result<u16, Refusal>
         ensures { result ≡ put_answer (length (state_of self.now).tree) place }
     {
         if place < u32::from(self.size()) {
-            Ok(place)
+            Ok(place as u16)
         } else {
             Err(Refusal::UnknownPlace)
         }
@@ -46,7 +49,9 @@ impl<'t, T: Toll> Planner<'t, T> {
         ensures promise { (m : Meaning T) → Keeps T.Toll.tolls (world_of m self.now) (turn_of (parked_at slip.place) (Call.Put place) []) (record { answer = moved_done (put_place result); slip = put_slip result; world = world_of m self.now; buffer = [] }) }
     {
         match self.known(place) {
-            Ok(place) => Ok(Parked { place }),
+            Ok(place) => Ok(Parked {
+                place: u32::from(place),
+            }),
             Err(why) => Err((slip, why)),
         }
     }
@@ -55,18 +60,14 @@ impl<'t, T: Toll> Planner<'t, T> {
     fn following<F: Floor<Toll = T>>(&self, floor: &F, place: u32) -> Result<u32, Refusal>
         ensures { result ≡ step_answer (F.Floor.meaning floor.now) (state_of self.now) place }
     {
-        let size = self.size();
-        if floor.places() != size {
+        if floor.places() != self.size() {
             return Err(Refusal::OtherFloor);
         }
-        if place >= u32::from(size) {
-            return Err(Refusal::UnknownPlace);
-        }
-        let place = place as u16;
+        let place = self.known(place)?;
         if place == self.target {
             return Err(Refusal::AtTarget);
         }
-        match next_step(&self.table[0..size as usize], floor, place) {
+        match next_step(self.front(), floor, place) {
             Some(next) => Ok(u32::from(next)),
             None => Err(Refusal::BrokenWay),
         }
@@ -101,12 +102,8 @@ impl<'t, T: Toll> Planner<'t, T> {
         ensures answer { result ≡ read_answer (state_of self.now).tree place }
         ensures promise { (m : Meaning T) (slip : Carrier) → Keeps T.Toll.tolls (world_of m self.now) (turn_of slip (Call.Read place) []) (record { answer = read_done result; slip = slip; world = world_of m self.now; buffer = [] }) }
     {
-        let size = self.size();
-        if place >= u32::from(size) {
-            return Err(Refusal::UnknownPlace);
-        }
-        let front = &self.table[0..size as usize];
-        let place = place as u16;
+        let place = self.known(place)?;
+        let front = self.front();
         Ok(Reading {
             toll: toll_at(front, place),
             next: next_at(front, place),

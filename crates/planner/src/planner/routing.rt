@@ -77,10 +77,7 @@ fn hand_over<T: Toll>(
     ensures carrier { route_carrier result ≡ slip_by (λ a. under_way_at slip.place) (parked_at slip.place) answer }
 {
     match answer {
-        Ok(route) => {
-            let Parked { place } = slip;
-            Ok((UnderWay { place }, route))
-        }
+        Ok(route) => Ok((UnderWay { place: slip.place }, route)),
         Err(why) => Err((slip, why)),
     }
 }
@@ -123,20 +120,33 @@ impl<'t, T: Toll> Planner<'t, T> {
         ensures carrier { route_carrier result ≡ slip_by (λ a. under_way_at slip.place) (parked_at slip.place) (routed T.Toll.tolls (F.Floor.meaning floor.now) (state_of self.old) slip.place way.old).answer }
         ensures held { Held self.old self.new }
     {
+        let answer = self.route_from(floor, slip.place, way);
+        hand_over(slip, answer)
+    }
+
+    /// Plans the way from a place; what the search expanded counts on a refusal too.
+    fn route_from<F: Floor<Toll = T>>(
+        &mut self,
+        floor: &F,
+        place: u32,
+        way: &mut [u16],
+    ) -> Result<Route<T>, Refusal>
+        ensures answer { result ≡ (routed T.Toll.tolls (F.Floor.meaning floor.now) (state_of self.old) place way.old).answer }
+        ensures state { state_of self.new ≡ (routed T.Toll.tolls (F.Floor.meaning floor.now) (state_of self.old) place way.old).state }
+        ensures buffer { way.new ≡ (routed T.Toll.tolls (F.Floor.meaning floor.now) (state_of self.old) place way.old).buffer }
+        ensures held { Held self.old self.new }
+    {
         let size = self.size();
         if floor.places() != size {
-            return Err((slip, Refusal::OtherFloor));
+            return Err(Refusal::OtherFloor);
         }
         if way.len() < size as usize {
-            return Err((slip, Refusal::ShortBuffer));
+            return Err(Refusal::ShortBuffer);
         }
-        if slip.place >= u32::from(size) {
-            return Err((slip, Refusal::UnknownPlace));
-        }
-        let place = slip.place as u16;
+        let place = self.known(place)?;
         let target = self.target;
         let (count, answer) = plan(&mut self.table[0..size as usize], floor, target, place, way);
         self.tally = self.tally.saturating_add(count);
-        hand_over(slip, answer)
+        answer
     }
 }

@@ -13,6 +13,8 @@ use crate::slips::{Parked, UnderWay};
 use floor::Floor;
 use toll::{Refusal, Toll};
 
+// By `match`, since `map_or_else` does not take a maker of a generic answer.
+
 /// What a put hands over and answers.
 fn put_done<T: Toll>(done: Result<Parked, (Parked, Refusal)>) -> (Carrier, Answer<T>)
     ensures slip { result.0 ≡ put_slip done }
@@ -20,10 +22,7 @@ fn put_done<T: Toll>(done: Result<Parked, (Parked, Refusal)>) -> (Carrier, Answe
 {
     match done {
         Ok(slip) => (Carrier::Parked(slip), Answer::Done),
-        Err(back) => {
-            let (slip, why) = back;
-            (Carrier::Parked(slip), Answer::Refused(why))
-        }
+        Err((slip, why)) => (Carrier::Parked(slip), Answer::Refused(why)),
     }
 }
 
@@ -37,10 +36,7 @@ fn step_done<T: Toll>(done: Result<UnderWay, (UnderWay, Refusal)>) -> (Carrier, 
             let place = slip.place;
             (Carrier::UnderWay(slip), Answer::Place(place))
         }
-        Err(back) => {
-            let (slip, why) = back;
-            (Carrier::UnderWay(slip), Answer::Refused(why))
-        }
+        Err((slip, why)) => (Carrier::UnderWay(slip), Answer::Refused(why)),
     }
 }
 
@@ -52,14 +48,8 @@ fn route_done<T: Toll>(
     ensures answer { result.1 ≡ route_done (route_answer done) }
 {
     match done {
-        Ok(done) => {
-            let (slip, route) = done;
-            (Carrier::UnderWay(slip), Answer::Route(route))
-        }
-        Err(back) => {
-            let (slip, why) = back;
-            (Carrier::Parked(slip), Answer::Refused(why))
-        }
+        Ok((slip, route)) => (Carrier::UnderWay(slip), Answer::Route(route)),
+        Err((slip, why)) => (Carrier::Parked(slip), Answer::Refused(why)),
     }
 }
 

@@ -31,6 +31,7 @@ impl<'t, T: Toll> Planner<'t, T> {
             Err(Refusal::NoStart)
         }
     }
+
     /// A planner with the target alone in its tree, and a parked slip at the carrier's place.
     /// Where the check refuses, it is a planner of no place, and the table stays as it was.
     pub fn make<F: Floor<Toll = T>>(
