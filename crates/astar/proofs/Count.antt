@@ -5,9 +5,6 @@ use Rattle.astar.specs.Sound.{Follows}
 use Rattle.astar.specs.Runs.{Once}
 use Rattle.astar.proofs.Opens.{same}
 
-Under : ℕ → List ℕ → Type 0
-Under n xs = (z : ℕ) → In z xs → z < n
-
 record Strip (n : ℕ) (xs : List ℕ) : Type 0 where
   ys : List ℕ
   once : Once ys

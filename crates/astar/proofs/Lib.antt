@@ -1,4 +1,3 @@
-pub mod Expanding
 pub mod Charts
 pub mod Order
 pub mod Lanes

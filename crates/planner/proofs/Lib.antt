@@ -1,10 +1,7 @@
 pub mod Starting
-pub mod Fronts
 pub mod Following
-pub mod Routing
 pub mod Fitting
 pub mod RouteProof
-pub mod Changing
 pub mod Serving
 pub mod Reaching
 pub mod Slipping

@@ -51,8 +51,3 @@ module _ {T : Type 0} (m : Meaning T) (E : List (Entry T)) (p : ℕ) where
   not_cut ms e f =
       alter_same E p ∙ ap (λ b. alter (opened_if b) E p) (sym f)
       ∙ ap (λ b. alter (λ x. cond b blank_entry (opened_if (beside_marked m ms p) x)) E p) (sym e)
-
--- a place of the tree is dropped if its recorded way uses the spot
-pub drops_used : {T : Type 0} (m : Meaning T) (k t : ℕ) (rs : List (Record T)) (p : ℕ) (a b : Bool) → a ≡ is_some (toll_at (tree_of rs) p) → a ≡ true → b ≡ uses_spot m k (tree_of rs) t (length rs) p → b ≡ drops m k t (tree_of rs) p
-drops_used m k t rs p a b e f u =
-    u ∙ ap (λ (n : ℕ). uses_spot m k (tree_of rs) t n p) (sym (tree_length rs p)) ∙ ap (λ v. v && uses_spot m k (tree_of rs) t (length (tree_of rs)) p) (sym f ∙ e)

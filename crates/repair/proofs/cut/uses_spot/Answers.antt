@@ -3,25 +3,7 @@ use Rattle.tree.specs.Tree.{tree_of}
 use Rattle.repair.proofs.Repairing.{uses_none, uses_arrived, uses_no_next, uses_joined, uses_more, uses_end}
 use Rattle.repair.proofs.cut.uses_spot.Goals as goal
 
-pub loop-init : goal.loop-init
-loop-init g c = uses_none (g.F.Floor.meaning c.args.floor.now) c.args.spot (tree_of c.args.table.now) c.args.target (length c.args.table.now) c.args.from
-
-pub returns-then-place-target : goal.returns-then-place-target
-returns-then-place-target g c =
-    uses_arrived (g.F.Floor.meaning c.args.floor.now) c.args.spot (tree_of c.args.table.now) c.args.target (length c.args.table.now) c.loop.counter c.loop.place _ (omega arith) c.loop.invariant c.if-place-target.true
-
-pub returns-in_default : goal.returns-in_default
-returns-in_default g c =
-    uses_no_next (g.F.Floor.meaning c.args.floor.now) c.args.spot (tree_of c.args.table.now) c.args.target (length c.args.table.now) c.loop.counter c.loop.place _ (omega arith) c.loop.invariant c.if-place-target.false (sym c.in_default.ensures)
-
-pub returns-then-joins : goal.returns-then-joins
-returns-then-joins g c =
-    uses_joined (g.F.Floor.meaning c.args.floor.now) c.args.spot (tree_of c.args.table.now) c.args.target (length c.args.table.now) c.loop.counter c.loop.place _ (omega arith) c.loop.invariant c.if-place-target.false c.in-Some.next (sym c.in-Some.ensures) c.joins.result c.joins.ensures c.if-joins.true
-
 pub loop-preserved : goal.loop-preserved
 loop-preserved g c =
     uses_more (g.F.Floor.meaning c.args.floor.now) c.args.spot (tree_of c.args.table.now) c.args.target (length c.args.table.now) c.loop.counter c.loop.place _ (omega arith) c.loop.invariant c.if-place-target.false c.in-Some.next (sym c.in-Some.ensures) c.joins.result c.joins.ensures c.if-joins.false
 
-pub returns : goal.returns
-returns g c =
-    uses_end (g.F.Floor.meaning c.args.floor.now) c.args.spot (tree_of c.args.table.now) c.args.target (length c.args.table.now) c.loop.counter c.loop.place _ (omega arith) c.loop.invariant

@@ -5,5 +5,3 @@ use Rattle.tree.proofs.start.clear.Goals as goal
 pub loop-i-preserved : goal.loop-i-preserved
 loop-i-preserved g c = clear_more c.loop-i.table c.loop-i.i c.blank.result (omega arith) c.blank.ensures c.loop-i.invariant
 
-pub returns : goal.returns
-returns g c = clear_all c.loop-i.table c.loop-i.i (length c.args.table.now) (omega arith) (omega arith) c.loop-i.invariant

@@ -3,12 +3,6 @@ use Rattle.tree.specs.Tree.{tree_of}
 use Rattle.tree.proofs.Walking.{walk_none, walk_no_next, walk_gap, walk_more, walk_end}
 use Rattle.tree.proofs.way.walk.Goals as goal
 
-pub loop-place-init : goal.loop-place-init
-loop-place-init g c = record {
-  few = omega arith;
-  rest = walk_none g.met.T.Toll.lawful (g.F.Floor.meaning c.args.floor.now) (tree_of c.args.table.now) c.args.target _ c.args.from c.zero-toll.result c.zero-toll.ensures;
-}
-
 pub returns-in_err-next-clause-value : goal.returns-in_err-next-clause-value
 returns-in_err-next-clause-value g c =
     c.from_residual.ensures ∙ walk_no_next g.met.T.Toll.lawful (g.F.Floor.meaning c.args.floor.now) (tree_of c.args.table.now) c.args.target _ c.loop-place.lanes c.loop-place.place c.loop-place.toll _ c.loop-place-test.true (omega arith) c.loop-place.invariant.rest (sym c.next_at.ensures ∙ c.in_err-next.was)

@@ -9,5 +9,3 @@ loop-i-preserved g c = (
   drop_more c.loop-i.way c.args.way.now c.loop-i.i c.loop-i.place c.loop-i.invariant.1,
 )
 
-pub returns : goal.returns
-returns g c = trail_end (tree_of c.args.table.now) c.loop-i.way c.args.way.now _ c.loop-i.i c.args.count c.loop-i.place (omega arith) c.loop-i.invariant.0 c.loop-i.invariant.1

@@ -7,12 +7,6 @@ pub returns-then-size-eq0 : goal.returns-then-size-eq0
 returns-then-size-eq0 c =
     (⊎_elim (λ e. size_none c.args.rows c.args.columns (omega arith)) (λ e. size_over c.args.rows c.args.columns (omega arith)) c.then-size-eq0.either, refl)
 
-pub overflow_cast-result : goal.overflow_cast-result
-overflow_cast-result c = let f = factors c.args.rows c.args.columns (omega arith) in omega arith
-
-pub overflow_cast-result-2 : goal.overflow_cast-result-2
-overflow_cast-result-2 c = let f = factors c.args.rows c.args.columns (omega arith) in omega arith
-
 pub invariant_of-result : goal.invariant_of-result
 invariant_of-result c =
     let f = factors c.args.rows c.args.columns (omega arith) in

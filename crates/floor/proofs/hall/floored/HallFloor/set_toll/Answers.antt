@@ -9,13 +9,6 @@ use Rattle.floor.proofs.FloorFacts.{set_refused, set_taken}
 use Rattle.floor.proofs.HallFacts.{spot_at, spot_past, stored_meaning, stored_above}
 use Rattle.floor.proofs.hall.floored.HallFloor.set_toll.Goals as goal
 
-pub returns-then-spot-size : goal.returns-then-spot-size
-returns-then-spot-size c =
-    let h = c.args.self.now in
-    let e = ap (λ o. answer_at seconds_kind o c.args.toll) (spot_past h.rows h.columns h.least h.cells.tolls h.full h.few c.args.spot (omega arith)) in
-    let f = set_refused seconds_kind (hall_meaning h) c.args.spot c.args.toll UnknownSpot e in
-    record { answer = sym e; floor = f.0; only = f.1 }
-
 pub returns-then-not-at_most : goal.returns-then-not-at_most
 returns-then-not-at_most c =
     let h = c.args.self.now in
@@ -23,19 +16,6 @@ returns-then-not-at_most c =
     let e = ap (λ o. answer_at seconds_kind o c.args.toll) (spot_at h.rows h.columns h.least h.cells.tolls h.full h.few c.args.spot (omega arith)) ∙ ap if_enough low in
     let f = set_refused seconds_kind (hall_meaning h) c.args.spot c.args.toll BelowLeast e in
     record { answer = sym e; floor = f.0; only = f.1 }
-
-pub invariant_of-self : goal.invariant_of-self
-invariant_of-self c =
-    let h = c.args.self.now in
-    let high : h.least.value ≤ c.args.toll.value = leb-true _ _ (sym c.at_most.ensures ∙ c.if-not-at_most.false) in
-    let e = c.store.ensures in
-    record {
-      tall = h.tall;
-      wide = h.wide;
-      few = h.few;
-      full = ap length e ∙ length-set h.cells.tolls c.args.spot c.value.result ∙ h.full;
-      above = λ k b. subst (λ ts. h.least.value ≤ get_or ts k 0) (sym e) (stored_above h.cells.tolls c.args.spot k c.value.result h.least.value (omega arith) (h.above k b));
-    }
 
 pub returns : goal.returns
 returns c =
