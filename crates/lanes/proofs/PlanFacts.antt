@@ -1,10 +1,11 @@
 -- A fair list of records is a lawful floor.
-use Rattle.std.proofs.Common.{◌≡◌, ℕ, zero, suc, ◌<◌, ◌≤◌, Bool, true, false, cond, ◌&&◌, ltb, ◌⊎◌, List, [], ◌∷◌, map, length, Some, None, Option, sym, refl, ap, ◌∙◌, subst, inl, inr, ⊎_elim, arith}
+use Rattle.std.proofs.Common.{◌≡◌, ℕ, zero, suc, ◌<◌, ◌≤◌, Bool, true, false, cond, ◌&&◌, eqb, ltb, List, [], ◌∷◌, map, length, Some, None, Option, sym, refl, ap, ◌∙◌, subst, inl, ⊎_elim, arith}
 use Rattle.std.specs.Option.{option_map}
+use Rattle.std.specs.Bool.{then_some}
 use Rattle.std.specs.List.{slice_get}
 use Rattle.std.proofs.lemmas.List.{length-map}
 use Rattle.std.proofs.lemmas.Option.{slice_get_past}
-use Rattle.std.proofs.lemmas.Bool.{cases_lt}
+use Rattle.std.proofs.lemmas.Bool.{cases_lt, lt-ltb, le-ltb, ne_eqb}
 use Rattle.std.proofs.lemmas.Bool.Decides.{nat_tests}
 use Rattle.toll.specs.Tolls.{Tolls, TollLaws, Le}
 use Rattle.floor.specs.Rising.{In}
@@ -93,16 +94,16 @@ module _ {T : Type 0} (A : Tolls T) (places : ℕ) (rs : List (LaneRecord T)) wh
   spot_none s h =
       none_in _ (λ l i. let x = (listed (list_meaning A places rs) numbered (λ x. x.spot) s).only l i in omega (arith, numbered l x.0 x.1, (read rs l x.0 x.1).spot_is, x.2))
 
-  pub spot_here : (s k : ℕ) → s < length rs → k ≡ 0 → Some s ≡ slice_get (of_spot (list_meaning A places rs) s) k
-  spot_here s k h z = sym (ap (λ (xs : List ℕ). slice_get xs k) (spot_one s h) ∙ ap (slice_get (s ∷ [])) z)
-
-  pub spot_elsewhere : (s k : ℕ) → ((s < length rs) × (k ≡ 0 → ⊥)) ⊎ (length rs ≤ s) → None ≡ slice_get (of_spot (list_meaning A places rs) s) k
-  spot_elsewhere s k (inl h) = sym (ap (λ (xs : List ℕ). slice_get xs k) (spot_one s h.0) ∙ second k h.1)
+  -- the k-th lane of a spot is there for one k alone
+  pub spot_nth : (s k : ℕ) (t : Bool) → t ≡ (ltb s (length rs) && eqb k 0) → then_some t s ≡ slice_get (of_spot (list_meaning A places rs) s) k
+  spot_nth s k t e =
+      ⊎_elim (λ (h : s < length rs). ap (λ b. then_some b s) (e ∙ ap (λ b. b && eqb k 0) (lt-ltb s (length rs) h)) ∙ first k ∙ ap (λ (xs : List ℕ). slice_get xs k) (sym (spot_one s h)))
+      (λ (h : length rs ≤ s). ap (λ b. then_some b s) (e ∙ ap (λ b. b && eqb k 0) (le-ltb s (length rs) h)) ∙ ap (λ (xs : List ℕ). slice_get xs k) (sym (spot_none s h)))
+      (cases_lt s (length rs))
     where
-      second : (k : ℕ) → (k ≡ 0 → ⊥) → slice_get (s ∷ []) k ≡ None
-      second zero n = absurd (n refl)
-      second (suc k) n = refl
-  spot_elsewhere s k (inr h) = sym (ap (λ (xs : List ℕ). slice_get xs k) (spot_none s h))
+      first : (k : ℕ) → then_some (eqb k 0) s ≡ slice_get (s ∷ []) k
+      first zero = refl
+      first (suc k) = ap (λ b. then_some b s) (ne_eqb (suc k) 0 (λ e. absurd (omega arith)))
 
   least_zero : (k : ℕ) (s : Spot T) → slice_get (map (spot_of A) rs) k ≡ Some s → s.least ≡ A.zero
   least_zero k s e = go (slice_get rs k) (sym (spot_at k) ∙ e)

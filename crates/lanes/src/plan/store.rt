@@ -21,9 +21,6 @@ impl<'a, T: Toll> LanePlan<'a, T> {
         ensures places { self.new.places ≡ self.old.places }
         ensures lender { self.new.lanes.ghost_name ≡ self.old.lanes.ghost_name }
     {
-        // The list is taken out for the write, since only a list that is put back whole is known to be fair.
-        let lanes = std::mem::replace(&mut self.lanes, &mut []);
-        rewrite(lanes, k, toll);
-        self.lanes = lanes;
+        rewrite(self.lanes, k, toll);
     }
 }
