@@ -3,7 +3,6 @@ ghost use Rattle.floor.specs.Setting.{set_answer, set_meaning, OnlyToll};
 ghost use Rattle.lanes.specs.Plans.{plan_meaning, retolled};
 
 use super::LanePlan;
-use super::scan::nth_lane;
 use floor::Floor;
 use toll::{Refusal, Toll};
 
@@ -42,11 +41,11 @@ impl<'a, T: Toll> Floor for LanePlan<'a, T> {
     }
 
     fn lane_out(&self, place: u16, k: u16) -> Option<u16> {
-        nth_lane(self.lanes, |lane| lane.leaves == place, k)
+        self.nth_lane(|lane| lane.leaves == place, k)
     }
 
     fn lane_into(&self, place: u16, k: u16) -> Option<u16> {
-        nth_lane(self.lanes, |lane| lane.enters == place, k)
+        self.nth_lane(|lane| lane.enters == place, k)
     }
 
     fn lane_of_spot(&self, spot: u16, k: u16) -> Option<u16> {

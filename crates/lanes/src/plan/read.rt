@@ -2,17 +2,16 @@ ghost use Rattle.std.specs.Prelude.{◌≡◌};
 ghost use Rattle.lanes.specs.Records.{appears, placed, all_fair};
 
 use crate::record::LaneRecord;
-use toll::Toll;
 
 /// Whether a record of the list has the ends of this one.
-fn has_ends<T: Toll>(lanes: &[LaneRecord<T>], lane: &LaneRecord<T>) -> bool
+fn has_ends<T>(lanes: &[LaneRecord<T>], lane: &LaneRecord<T>) -> bool
     ensures { result ≡ appears lane.now lanes.now }
 {
     lanes.iter().any(|other| lane.leaves == other.leaves && lane.enters == other.enters)
 }
 
 /// Whether each record is well placed, and none has the ends of another. Each is compared with those behind it.
-pub(super) fn all_fair<T: Toll>(places: u32, lanes: &[LaneRecord<T>]) -> bool
+pub(super) fn all_fair<T>(places: u32, lanes: &[LaneRecord<T>]) -> bool
     ensures { result ≡ all_fair places lanes.now }
 {
     let mut left = lanes;
@@ -26,7 +25,7 @@ pub(super) fn all_fair<T: Toll>(places: u32, lanes: &[LaneRecord<T>]) -> bool
 }
 
 /// Whether the ends of a record are places and differ.
-fn is_placed<T: Toll>(places: u32, lane: &LaneRecord<T>) -> bool
+fn is_placed<T>(places: u32, lane: &LaneRecord<T>) -> bool
     ensures { result ≡ placed places lane.now }
 {
     u32::from(lane.leaves) < places && u32::from(lane.enters) < places && lane.leaves != lane.enters
