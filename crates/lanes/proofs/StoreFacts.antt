@@ -6,9 +6,8 @@ use Rattle.toll.specs.Tolls.{Tolls}
 use Rattle.floor.specs.Meaning.{Spot}
 use Rattle.floor.specs.Setting.{with_toll}
 use Rattle.lanes.specs.declared.record.LaneRecord.{LaneRecord}
-use Rattle.lanes.specs.declared.plan.LanePlan.{LanePlan}
 use Rattle.lanes.specs.Records.{same_ends, appears, placed, all_fair}
-use Rattle.lanes.specs.Plans.{lane_as, spot_of, zero_between, list_meaning, plan_meaning, retolled}
+use Rattle.lanes.specs.Plans.{lane_as, spot_of, zero_between, list_meaning, retolled}
 
 module _ {T : Type 0} where
   -- as the code stores it
@@ -51,17 +50,16 @@ module _ {T : Type 0} where
   retolled_spots A (r ∷ rs) zero t = refl
   retolled_spots A (r ∷ rs) (suc k) t = ap (λ (ss : List (Spot T)). spot_of A r ∷ ss) (retolled_spots A rs k t)
 
-  -- the plan after a store is the floor with that toll
-  pub stored_plan : (A : Tolls T) (p q : LanePlan T) (k : ℕ) (t : T) (r : LaneRecord T) → slice_get (map (spot_of A) p.lanes.now) k ≡ Some (spot_of A r) → q.places ≡ p.places → q.lanes.now ≡ retolled p.lanes.now k t →
-      plan_meaning A q ≡ with_toll (plan_meaning A p) k (slice_get (plan_meaning A p).spots k) t
-  stored_plan A p q k t r e n ls =
-      let rs = p.lanes.now in let h = retolled_length rs k t in let s = retolled_spots A rs k t in
-      let same : plan_meaning A q ≡ list_meaning A p.places (retolled rs k t) = λ i. list_meaning A (n i) (ls i) in
-      let m : list_meaning A p.places (retolled rs k t) ≡ with_toll (plan_meaning A p) k (Some (spot_of A r)) t = λ i. record {
-        places = p.places;
-        lanes = h i;
+  -- the floor after a store is the floor with that toll
+  pub stored_meaning : (A : Tolls T) (places : ℕ) (rs after : List (LaneRecord T)) (k : ℕ) (t : T) (r : LaneRecord T) → slice_get (map (spot_of A) rs) k ≡ Some (spot_of A r) → after ≡ retolled rs k t →
+      list_meaning A places after ≡ with_toll (list_meaning A places rs) k (slice_get (list_meaning A places rs).spots k) t
+  stored_meaning A places rs after k t r e stored =
+      let n = retolled_length rs k t in let s = retolled_spots A rs k t in
+      let m : list_meaning A places (retolled rs k t) ≡ with_toll (list_meaning A places rs) k (Some (spot_of A r)) t = λ i. record {
+        places = places;
+        lanes = n i;
         lane = λ l. retolled_lane l rs k l t i;
         spots = s i;
-        estimate = zero_between A p.places;
+        estimate = zero_between A places;
       } in
-      same ∙ m ∙ ap (λ (o : Option (Spot T)). with_toll (plan_meaning A p) k o t) (sym e)
+      ap (list_meaning A places) stored ∙ m ∙ ap (λ (o : Option (Spot T)). with_toll (list_meaning A places rs) k o t) (sym e)

@@ -1,8 +1,9 @@
-ghost use Rattle.std.specs.Prelude.{◌≡◌};
+ghost use Rattle.std.specs.Prelude.{◌≡◌, ◌<◌, length};
 ghost use Rattle.floor.specs.Setting.{set_answer, set_meaning, OnlyToll};
 ghost use Rattle.lanes.specs.Plans.{plan_meaning, retolled};
 
 use super::LanePlan;
+use crate::record::LaneRecord;
 use floor::Floor;
 use toll::{Refusal, Toll};
 
@@ -68,7 +69,15 @@ impl<'a, T: Toll> Floor for LanePlan<'a, T> {
         if k >= self.lanes.len() {
             return Err(Refusal::UnknownSpot);
         }
-        self.store(k, toll);
+        rewrite(self.lanes, k, toll);
         Ok(())
     }
+}
+
+/// Writes the toll of a record.
+fn rewrite<T: Toll>(lanes: &mut [LaneRecord<T>], k: usize, toll: T)
+    requires { k < length lanes.old }
+    ensures { lanes.new ≡ retolled lanes.old k toll }
+{
+    lanes[k].toll = toll;
 }
