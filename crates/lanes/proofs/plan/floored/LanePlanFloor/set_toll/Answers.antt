@@ -20,9 +20,9 @@ returns-then-k-self g c =
 
 pub invariant_of-self : goal.invariant_of-self
 invariant_of-self g c =
-    let p = c.args.self.now in let k = c.from-k.result in let t = c.args.toll in let after = c.rewrite.ensures in
-    let short : length c.rewrite.new.lanes ≤ 4096 = omega (arith, ap length after, retolled_length p.lanes.now k t, p.short) in
-    record { some = p.some; few = p.few; short = short; fair = ap (all_fair p.places) after ∙ retolled_fair p.places p.lanes.now k t ∙ p.fair }
+    let p = c.args.self.now in let rs = p.lanes.now in let after = c.rewrite.ensures in
+    let same : length c.rewrite.new.lanes ≡ length rs = ap length after ∙ retolled_length rs _ _ in
+    record { some = p.some; few = p.few; short = omega (arith, p.short); fair = ap (all_fair p.places) after ∙ retolled_fair p.places rs _ _ ∙ p.fair }
 
 pub returns : goal.returns
 returns g c =
