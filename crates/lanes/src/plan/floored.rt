@@ -74,7 +74,7 @@ impl<'a, T: Toll> Floor for LanePlan<'a, T> {
     }
 }
 
-/// Writes the toll of a record.
+/// Writes the toll of a record. As a rule of the project, a function does it that takes the list for writing.
 fn rewrite<T: Toll>(lanes: &mut [LaneRecord<T>], k: usize, toll: T)
     requires { k < length lanes.old }
     ensures { lanes.new ≡ retolled lanes.old k toll }

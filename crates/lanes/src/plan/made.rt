@@ -30,6 +30,7 @@ impl<'a, T: Toll> LanePlan<'a, T> {
         ensures lender { plan_answer places lanes.old ≡ Ok tt → result.lanes.ghost_name ≡ lanes.entry.ghost_name }
     {
         if LanePlan::check(places, lanes).is_ok() {
+            // The check allows at most 1,024 places.
             LanePlan {
                 lanes,
                 places: places as u16,
