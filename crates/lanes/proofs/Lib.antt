@@ -1,4 +1,3 @@
-pub mod RecordFacts
 pub mod FairFacts
 pub mod ScanFacts
 pub mod StoreFacts

@@ -1,47 +1,34 @@
--- A scan of the records in their order, for the k-th that passes a test.
-use Rattle.std.proofs.Common.{◌≡◌, ℕ, zero, suc, ◌+◌, ◌-◌, ◌<◌, ◌≤◌, Bool, true, false, cond, eqb, List, ◌∷◌, length, get_or, Some, None, Option, sym, refl, ap, ◌∙◌, arith}
+-- The numbers of the records that pass a test are those of the lanes that do.
+use Rattle.std.proofs.Common.{◌≡◌, ℕ, suc, ◌+◌, ◌==◌, Bool, true, false, cond, List, [], ◌∷◌, map, filter, length, Some, sym, refl, ap, ◌∙◌, arith}
 use Rattle.std.specs.Option.{option_map}
-use Rattle.std.specs.List.{slice_get}
-use Rattle.std.proofs.lemmas.Option.{slice_get_read}
+use Rattle.std.specs.List.{slice_get, enumerate_from}
+use Rattle.toll.specs.Tolls.{Tolls}
 use Rattle.floor.specs.Rising.{passing}
-use Rattle.floor.specs.Meaning.{has}
+use Rattle.floor.specs.Meaning.{has, lanes_by, out_of, into}
 use Rattle.lanes.specs.declared.record.LaneRecord.{LaneRecord}
-use Rattle.lanes.specs.declared.record.End.{End}
-use Rattle.lanes.specs.declared.record.End.TheVariants.{Leaves, Enters}
-use Rattle.lanes.specs.Plans.{lane_as, lane_of, lane_end, end_of}
+use Rattle.lanes.specs.Plans.{lane_as, lane_of, lanes_where, list_meaning}
 
--- the scan has come to i, of n, and passes over as many as are left
-module _ (f : ℕ → Bool) (n k i left : ℕ) where
-  at : (m : ℕ) → i + suc m ≡ n → passing f i (n - i) ≡ cond (f i) (i ∷ passing f (i + 1) (n - (i + 1))) (passing f (i + 1) (n - (i + 1)))
-  at m e = let a : n - i ≡ suc m = omega arith in let b : n - (i + 1) ≡ m = omega arith in rw (a, b)
+-- a number is kept, or passed over
+numbers_more : {X : Type 0} (b : Bool) (n : ℕ) (x : X) (es : List (ℕ × X)) (ns : List ℕ) → map (λ (e : ℕ × X). e.0) es ≡ ns → map (λ (e : ℕ × X). e.0) (cond b ((n, x) ∷ es) es) ≡ cond b (n ∷ ns) ns
+numbers_more true n x es ns e = ap (λ (ms : List ℕ). n ∷ ms) e
+numbers_more false n x es ns e = e
 
-  split : (b : Bool) → i < n → f i ≡ b → slice_get (passing f i (n - i)) left ≡ slice_get (cond b (i ∷ passing f (i + 1) (n - (i + 1))) (passing f (i + 1) (n - (i + 1)))) left
-  split b h t =
-      ap (λ (xs : List ℕ). slice_get xs left) (at (n - (i + 1)) (omega arith))
-      ∙ ap (λ (c : Bool). slice_get (cond c (i ∷ passing f (i + 1) (n - (i + 1))) (passing f (i + 1) (n - (i + 1)))) left) t
+module _ {T : Type 0} where
+  numbers_passing : (test : LaneRecord T → Bool) (f : ℕ → Bool) (rs : List (LaneRecord T)) (n : ℕ) → ((k m : ℕ) (r : LaneRecord T) → m ≡ n + k → slice_get rs k ≡ Some r → f m ≡ test r) →
+      map (λ (e : ℕ × LaneRecord T). e.0) (filter (λ (e : ℕ × LaneRecord T). test e.1) (enumerate_from n rs)) ≡ passing f n (length rs)
+  numbers_passing test f [] n h = refl
+  numbers_passing test f (r ∷ rs) n h =
+      numbers_more (test r) n r _ _ (numbers_passing test f rs (n + 1) (λ k m x q. h (suc k) m x (omega arith)))
+      ∙ ap (λ (b : Bool). cond b (n ∷ passing f (n + 1) (length rs)) (passing f (n + 1) (length rs))) (sym (h 0 n r (omega arith) refl))
 
-  pub scan_found : i < n → f i ≡ true → left ≡ 0 → slice_get (passing f i (n - i)) left ≡ slice_get (passing f 0 n) k → Some i ≡ slice_get (passing f 0 n) k
-  scan_found h t z inv = ap (slice_get (i ∷ passing f (i + 1) (n - (i + 1)))) (sym z) ∙ sym (split true h t) ∙ inv
+  module _ (A : Tolls T) (places : ℕ) (rs : List (LaneRecord T)) where
+    lane_there : (m k : ℕ) (r : LaneRecord T) → m ≡ 0 + k → slice_get rs k ≡ Some r → lane_of rs m ≡ Some (lane_as m r)
+    lane_there m k r q e = ap (λ (l : ℕ). option_map (lane_as m) (slice_get rs l)) (omega arith) ∙ ap (option_map (lane_as m)) e
 
-  pub scan_past : i < n → f i ≡ true → (left ≡ 0 → ⊥) → slice_get (passing f i (n - i)) left ≡ slice_get (passing f 0 n) k → slice_get (passing f (i + 1) (n - (i + 1))) (left - 1) ≡ slice_get (passing f 0 n) k
-  scan_past h t z inv = sym (behind left z) ∙ sym (split true h t) ∙ inv
-    where
-      behind : (m : ℕ) → (m ≡ 0 → ⊥) → slice_get (i ∷ passing f (i + 1) (n - (i + 1))) m ≡ slice_get (passing f (i + 1) (n - (i + 1))) (m - 1)
-      behind zero z = absurd (z refl)
-      behind (suc m) z = ap (slice_get (passing f (i + 1) (n - (i + 1)))) (omega arith)
+    pub leaving : (p : ℕ) → lanes_where (λ r. r.leaves == p) rs ≡ out_of (list_meaning A places rs) p
+    unfolding lanes_by
+    leaving p = numbers_passing (λ r. r.leaves == p) _ rs 0 (λ k m r q e. ap (has (λ x. x.leaves) p) (lane_there m k r q e))
 
-  pub scan_no : i < n → f i ≡ false → slice_get (passing f i (n - i)) left ≡ slice_get (passing f 0 n) k → slice_get (passing f (i + 1) (n - (i + 1))) left ≡ slice_get (passing f 0 n) k
-  scan_no h t inv = sym (split false h t) ∙ inv
-
-  pub scan_end : n ≤ i → slice_get (passing f i (n - i)) left ≡ slice_get (passing f 0 n) k → None ≡ slice_get (passing f 0 n) k
-  scan_end h inv = let a : n - i ≡ 0 = omega arith in ap (λ (m : ℕ). slice_get (passing f i m) left) (sym a) ∙ inv
-
--- the test at record x, the i-th
-pub at_record : {T : Type 0} (rs : List (LaneRecord T)) (end : End) (p i : ℕ) (x : LaneRecord T) → i < length rs → x ≡ get_or rs i x → has (lane_end end) p (lane_of rs i) ≡ eqb (end_of end x) p
-at_record {T} rs end p i x h is =
-    ap (λ (o : Option (LaneRecord T)). has (lane_end end) p (option_map (lane_as i) o)) (slice_get_read rs _ i x refl h is)
-    ∙ either end
-  where
-    either : (e : End) → has (lane_end e) p (Some (lane_as i x)) ≡ eqb (end_of e x) p
-    either Leaves = refl
-    either Enters = refl
+    pub entering : (p : ℕ) → lanes_where (λ r. r.enters == p) rs ≡ into (list_meaning A places rs) p
+    unfolding lanes_by
+    entering p = numbers_passing (λ r. r.enters == p) _ rs 0 (λ k m r q e. ap (has (λ x. x.enters) p) (lane_there m k r q e))

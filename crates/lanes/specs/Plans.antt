@@ -1,18 +1,18 @@
 -- What a lane plan means: record i is lane i, and spot i has its toll.
 -- lane_as, lane_of, spot_of      a record as a lane and as a spot
 -- list_meaning, plan_meaning     a list of records, and the code's plan, as a floor
--- lanes_at rs end p              the lanes of which that end is place p
+-- lanes_where test rs            the numbers of the records that pass a test
+-- TestsAs g f test               that a closure is that test
 -- retolled rs k t                the list with toll t at record k
 -- made_meaning, made_lanes       a plan that is made from a list
-use Rattle.std.specs.Prelude.{ℕ, zero, suc, cond, ◌&&◌, List, [], ◌∷◌, map, length, is_ok, Some, None, Option, nat_lt}
+use Rattle.std.specs.Prelude.{◌≡◌, ℕ, zero, suc, Bool, cond, ◌&&◌, List, [], ◌∷◌, map, filter, length, is_ok, Some, None, Option, nat_lt}
+use Rattle.std.specs.Fn.{Shared, FnReturnsAt}
 use Rattle.std.specs.Option.{option_map}
-use Rattle.std.specs.List.{slice_get}
+use Rattle.std.specs.List.{slice_get, enumerate_from}
+use denote.Ref.{Bor}
 use Rattle.toll.specs.Tolls.{Tolls}
-use Rattle.floor.specs.Rising.{passing}
-use Rattle.floor.specs.Meaning.{Lane, Spot, Meaning, has}
+use Rattle.floor.specs.Meaning.{Lane, Spot, Meaning}
 use Rattle.lanes.specs.declared.record.LaneRecord.{LaneRecord}
-use Rattle.lanes.specs.declared.record.End.{End}
-use Rattle.lanes.specs.declared.record.End.TheVariants.{Leaves, Enters}
 use Rattle.lanes.specs.declared.plan.LanePlan.{LanePlan}
 use Rattle.lanes.specs.Records.{plan_answer}
 
@@ -46,19 +46,13 @@ list_meaning A places rs = record {
 abbrev pub plan_meaning : {T : Type 0} → Tolls T → LanePlan T → Meaning T
 plan_meaning A p = list_meaning A p.places p.lanes.now
 
--- an end of a record
-abbrev pub end_of : {T : Type 0} → End → LaneRecord T → ℕ
-end_of Leaves r = r.leaves
-end_of Enters r = r.enters
+-- the numbers of the records that pass a test, in rising order
+abbrev pub lanes_where : {T : Type 0} → (LaneRecord T → Bool) → List (LaneRecord T) → List ℕ
+lanes_where test rs = map (λ e. e.0) (filter (λ e. test e.1) (enumerate_from 0 rs))
 
--- an end of a lane
-abbrev pub lane_end : End → Lane → ℕ
-lane_end Leaves = λ x. x.leaves
-lane_end Enters = λ x. x.enters
-
--- the numbers of the lanes of which that end is p, in rising order
-abbrev pub lanes_at : {T : Type 0} → List (LaneRecord T) → End → ℕ → List ℕ
-lanes_at rs end p = passing (λ l. has (lane_end end) p (lane_of rs l)) 0 (length rs)
+-- each call of a closure at a record answers what the test says
+abbrev pub TestsAs : {T F : Type 0} → Shared F (Bor (LaneRecord T) × Unit {0}) Bool → F → (LaneRecord T → Bool) → Type 0
+TestsAs g f test = (r : _) (b : Bool) → FnReturnsAt g f r b → b ≡ test r
 
 -- the list with toll t at record k
 abbrev pub retolled : {T : Type 0} → List (LaneRecord T) → ℕ → T → List (LaneRecord T)

@@ -3,8 +3,8 @@
 -- placed, all_fair               whether a record, and a whole list, is fair
 -- plan_size, plan_answer         whether the size fits; what the check answers
 -- Fair, Fits                     the same in words
-use Rattle.std.specs.Prelude.{◌≡◌, ℕ, ◌<◌, ◌≤◌, Bool, true, false, cond, not, ◌&&◌, ◌||◌, List, [], ◌∷◌, length, Some, Ok, Err, Result, ◌==◌, nat_le, nat_lt}
-use Rattle.std.specs.List.{slice_get}
+use Rattle.std.specs.Prelude.{◌≡◌, ℕ, ◌<◌, ◌≤◌, Bool, true, cond, not, ◌&&◌, List, [], ◌∷◌, length, Some, Ok, Err, Result, ◌==◌, nat_le, nat_lt}
+use Rattle.std.specs.List.{slice_get, list_any}
 use Rattle.toll.specs.declared.refusal.Refusal.{Refusal}
 use Rattle.toll.specs.declared.refusal.Refusal.TheVariants.{FloorSize, LaneRecord as BadRecord}
 use Rattle.lanes.specs.declared.record.LaneRecord.{LaneRecord}
@@ -15,8 +15,7 @@ same_ends r s = r.leaves == s.leaves && r.enters == s.enters
 
 -- whether a record of the list has the ends of r
 abbrev pub appears : {T : Type 0} → LaneRecord T → List (LaneRecord T) → Bool
-appears r [] = false
-appears r (s ∷ ss) = same_ends r s || appears r ss
+appears r rs = list_any (same_ends r) rs
 
 -- whether the ends of a record are places and differ
 abbrev pub placed : {T : Type 0} → ℕ → LaneRecord T → Bool

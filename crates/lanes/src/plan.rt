@@ -19,4 +19,3 @@ pub mod floored;
 mod made;
 mod read;
 mod scan;
-mod store;

@@ -1,11 +1,9 @@
-ghost use Rattle.std.specs.Prelude.{◌≡◌};
+ghost use Rattle.std.specs.Prelude.{◌≡◌, ◌<◌, length};
 ghost use Rattle.floor.specs.Setting.{set_answer, set_meaning, OnlyToll};
 ghost use Rattle.lanes.specs.Plans.{plan_meaning, retolled};
 
 use super::LanePlan;
-use super::read::record_at;
-use super::scan::lane_at;
-use crate::record::End;
+use crate::record::LaneRecord;
 use floor::Floor;
 use toll::{Refusal, Toll};
 
@@ -25,10 +23,9 @@ impl<'a, T: Toll> Floor for LanePlan<'a, T> {
     }
 
     fn lane_ends(&self, lane: u16) -> Option<(u16, u16)> {
-        match record_at(self.lanes, lane) {
-            Some(record) => Some((record.leaves, record.enters)),
-            None => None,
-        }
+        self.lanes
+            .get(usize::from(lane))
+            .map(|record| (record.leaves, record.enters))
     }
 
     // A lane's spot has the lane's number.
@@ -37,42 +34,27 @@ impl<'a, T: Toll> Floor for LanePlan<'a, T> {
     }
 
     fn spot_toll(&self, spot: u16) -> Option<T> {
-        match record_at(self.lanes, spot) {
-            Some(record) => Some(record.toll),
-            None => None,
-        }
+        self.lanes.get(usize::from(spot)).map(|record| record.toll)
     }
 
     fn least_toll(&self, spot: u16) -> Option<T> {
-        if (spot as usize) < self.lanes.len() {
-            Some(T::zero())
-        } else {
-            None
-        }
+        self.lanes.get(usize::from(spot)).map(|_| T::zero())
     }
 
     fn lane_out(&self, place: u16, k: u16) -> Option<u16> {
-        lane_at(self.lanes, End::Leaves, place, k)
+        self.nth_lane(|lane| lane.leaves == place, k)
     }
 
     fn lane_into(&self, place: u16, k: u16) -> Option<u16> {
-        lane_at(self.lanes, End::Enters, place, k)
+        self.nth_lane(|lane| lane.enters == place, k)
     }
 
     fn lane_of_spot(&self, spot: u16, k: u16) -> Option<u16> {
-        if (spot as usize) < self.lanes.len() && k == 0 {
-            Some(spot)
-        } else {
-            None
-        }
+        (usize::from(spot) < self.lanes.len() && k == 0).then_some(spot)
     }
 
     fn estimate(&self, from: u16, to: u16) -> Option<T> {
-        if from < self.places && to < self.places {
-            Some(T::zero())
-        } else {
-            None
-        }
+        (from < self.places && to < self.places).then_some(T::zero())
     }
 
     // No toll is below zero, the least toll of each spot.
@@ -83,10 +65,19 @@ impl<'a, T: Toll> Floor for LanePlan<'a, T> {
         ensures lanes { self.new.lanes.now ≡ retolled self.old.lanes.now spot toll }
         ensures lender { self.new.lanes.ghost_name ≡ self.old.lanes.ghost_name }
     {
-        if spot as usize >= self.lanes.len() {
+        let k = usize::from(spot);
+        if k >= self.lanes.len() {
             return Err(Refusal::UnknownSpot);
         }
-        self.store(spot as usize, toll);
+        rewrite(self.lanes, k, toll);
         Ok(())
     }
+}
+
+/// Writes the toll of a record. As a rule of the project, a function does it that takes the list for writing.
+fn rewrite<T: Toll>(lanes: &mut [LaneRecord<T>], k: usize, toll: T)
+    requires { k < length lanes.old }
+    ensures { lanes.new ≡ retolled lanes.old k toll }
+{
+    lanes[k].toll = toll;
 }

@@ -17,11 +17,10 @@ impl<'a, T: Toll> LanePlan<'a, T> {
         if places == 0 || places > 1024 || lanes.len() > 4096 {
             return Err(Refusal::FloorSize);
         }
-        if all_fair(places, lanes) {
-            Ok(())
-        } else {
-            Err(Refusal::LaneRecord)
+        if !all_fair(places, lanes) {
+            return Err(Refusal::LaneRecord);
         }
+        Ok(())
     }
 
     /// A plan over the lent records. What the check refuses becomes a plan of one place and no lane, which holds none of them.
@@ -30,15 +29,17 @@ impl<'a, T: Toll> LanePlan<'a, T> {
         ensures lanes { result.lanes.now ≡ made_lanes places lanes.old }
         ensures lender { plan_answer places lanes.old ≡ Ok tt → result.lanes.ghost_name ≡ lanes.entry.ghost_name }
     {
-        match LanePlan::check(places, lanes) {
-            Ok(()) => LanePlan {
+        if LanePlan::check(places, lanes).is_ok() {
+            // The check allows at most 1,024 places.
+            LanePlan {
                 lanes,
                 places: places as u16,
-            },
-            Err(_) => LanePlan {
+            }
+        } else {
+            LanePlan {
                 lanes: &mut [],
                 places: 1,
-            },
+            }
         }
     }
 }

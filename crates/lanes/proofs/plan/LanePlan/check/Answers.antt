@@ -1,19 +1,15 @@
-use Rattle.std.proofs.Common.{◌≡◌, true, false, length, sym, ◌∙◌, arith}
-use Rattle.std.proofs.lemmas.Bool.Decides.{nat_tests}
-use Rattle.lanes.specs.Records.{plan_size}
-use Rattle.lanes.proofs.FairFacts.{answer_is, words}
+use Rattle.std.proofs.Common.{refl, arith}
+use Rattle.std.proofs.lemmas.Bool.{both_ways}
+use Rattle.lanes.specs.Records.{all_fair}
+use Rattle.lanes.proofs.FairFacts.{is_fair, fair_is}
 use Rattle.lanes.proofs.plan.LanePlan.check.Goals as goal
 
-pub returns-then-all_fair : goal.returns-then-all_fair
-returns-then-all_fair g c =
+pub returns-then-not-all_fair-clause-fits : goal.returns-then-not-all_fair-clause-fits
+returns-then-not-all_fair-clause-fits g c =
     let p = c.args.places in let rs = c.args.lanes.now in
-    let size : plan_size p (length rs) ≡ true = grind (arith, nat_tests) in
-    let e = sym (answer_is p rs true true size (sym c.all_fair.ensures ∙ c.if-all_fair.true)) in
-    record { answer = e; fits = words p rs _ e }
+    (λ q. absurd (cc), λ f. absurd (both_ways (all_fair p rs) (cc) (fair_is p rs f.fair)))
 
-pub returns-else-all_fair : goal.returns-else-all_fair
-returns-else-all_fair g c =
+pub returns-clause-fits : goal.returns-clause-fits
+returns-clause-fits g c =
     let p = c.args.places in let rs = c.args.lanes.now in
-    let size : plan_size p (length rs) ≡ true = grind (arith, nat_tests) in
-    let e = sym (answer_is p rs true false size (sym c.all_fair.ensures ∙ c.if-all_fair.false)) in
-    record { answer = e; fits = words p rs _ e }
+    (λ q. record { some_place = omega arith; few_places = omega arith; few_lanes = omega arith; fair = is_fair p rs (cc) }, λ f. refl)

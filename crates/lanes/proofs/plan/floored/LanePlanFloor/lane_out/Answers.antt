@@ -1,6 +1,10 @@
-use Rattle.floor.specs.Meaning.{lanes_by}
+use Rattle.std.proofs.Common.{rules, ◌==◌, ap, ◌∙◌}
+use Rattle.std.specs.List.{slice_get}
+use Rattle.lanes.proofs.ScanFacts.{leaving}
 use Rattle.lanes.proofs.plan.floored.LanePlanFloor.lane_out.Goals as goal
 
 pub returns : goal.returns
-unfolding lanes_by
-returns g c = c.lane_at.ensures
+returns g c =
+    let p = c.args.self.now in
+    c.nth_lane.ensures (λ r. r.leaves == c.args.place) (λ r b q. search rules)
+    ∙ ap (λ ls. slice_get ls c.args.k) (leaving g.T.Toll.tolls p.places p.lanes.now c.args.place)
