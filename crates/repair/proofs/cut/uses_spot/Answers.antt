@@ -6,4 +6,3 @@ use Rattle.repair.proofs.cut.uses_spot.Goals as goal
 pub loop-preserved : goal.loop-preserved
 loop-preserved g c =
     uses_more (g.F.Floor.meaning c.args.floor.now) c.args.spot (tree_of c.args.table.now) c.args.target (length c.args.table.now) c.loop.counter c.loop.place _ (omega arith) c.loop.invariant c.if-place-target.false c.in-Some.next (sym c.in-Some.ensures) c.joins.result c.joins.ensures c.if-joins.false
-

@@ -4,4 +4,3 @@ use Rattle.tree.proofs.start.clear.Goals as goal
 
 pub loop-i-preserved : goal.loop-i-preserved
 loop-i-preserved g c = clear_more c.loop-i.table c.loop-i.i c.blank.result (omega arith) c.blank.ensures c.loop-i.invariant
-
