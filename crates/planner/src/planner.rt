@@ -1,3 +1,5 @@
+ghost use Rattle.std.specs.Prelude.{◌≤◌, length};
+
 use tree::Record;
 
 /// Plans the way of one carrier to one target, over a table that the caller lends for its whole life.
@@ -8,6 +10,7 @@ pub struct Planner<'t, T> {
     places: u16,
     target: u16,
     tally: u32,
+    ghost fits: { places ≤ length table.now },
 }
 
 pub mod calls;

@@ -17,25 +17,18 @@ use tree::table::{next_at, toll_at};
 use tree::way::next_step;
 
 impl<'t, T: Toll> Planner<'t, T> {
-    /// The number of places; it is that of the table's records at the most.
-    pub(super) fn size(&self) -> u16
-        ensures { result ≡ length (state_of self.now).tree }
-    {
-        self.table.len().min(self.places as usize) as u16
-    }
-
     /// The records of the places.
     fn front(&self) -> &[Record<T>]
         ensures { result.now ≡ take self.now.places self.now.table.now }
     {
-        &self.table[..self.size() as usize]
+        &self.table[..self.places as usize]
     }
 
     /// The place as the number of a record, if it is one.
     pub(super) fn known(&self, place: u32) -> Result<u16, Refusal>
         ensures { result ≡ put_answer (length (state_of self.now).tree) place }
     {
-        if place < u32::from(self.size()) {
+        if place < u32::from(self.places) {
             Ok(place as u16)
         } else {
             Err(Refusal::UnknownPlace)
@@ -60,7 +53,7 @@ impl<'t, T: Toll> Planner<'t, T> {
     fn following<F: Floor<Toll = T>>(&self, floor: &F, place: u32) -> Result<u32, Refusal>
         ensures { result ≡ step_answer (F.Floor.meaning floor.now) (state_of self.now) place }
     {
-        if floor.places() != self.size() {
+        if floor.places() != self.places {
             return Err(Refusal::OtherFloor);
         }
         let place = self.known(place)?;

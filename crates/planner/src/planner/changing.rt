@@ -22,10 +22,9 @@ impl<'t, T: Toll> Planner<'t, T> {
         ensures tally { (state_of self.new).tally ≡ (state_of self.old).tally }
         ensures held { Held self.old self.new }
     {
-        let size = self.size();
         let target = self.target;
         repair(
-            &mut self.table[0..size as usize],
+            &mut self.table[0..self.places as usize],
             floor,
             target,
             spot,
@@ -45,7 +44,7 @@ impl<'t, T: Toll> Planner<'t, T> {
         ensures floor { F.Floor.meaning floor.new ≡ (changed T.Toll.tolls (F.Floor.meaning floor.old) (state_of self.old) spot toll).floor }
         ensures held { Held self.old self.new }
     {
-        if floor.places() != self.size() {
+        if floor.places() != self.places {
             return Err(Refusal::OtherFloor);
         }
         if spot >= u32::from(floor.spots()) {

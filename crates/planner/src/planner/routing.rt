@@ -136,16 +136,16 @@ impl<'t, T: Toll> Planner<'t, T> {
         ensures buffer { way.new ≡ (routed T.Toll.tolls (F.Floor.meaning floor.now) (state_of self.old) place way.old).buffer }
         ensures held { Held self.old self.new }
     {
-        let size = self.size();
-        if floor.places() != size {
+        if floor.places() != self.places {
             return Err(Refusal::OtherFloor);
         }
-        if way.len() < size as usize {
+        if way.len() < self.places as usize {
             return Err(Refusal::ShortBuffer);
         }
         let place = self.known(place)?;
         let target = self.target;
-        let (count, answer) = plan(&mut self.table[0..size as usize], floor, target, place, way);
+        let front = &mut self.table[0..self.places as usize];
+        let (count, answer) = plan(front, floor, target, place, way);
         self.tally = self.tally.saturating_add(count);
         answer
     }
