@@ -59,5 +59,5 @@ by_floor n (Ok l) s e = (l, refl, opened_floor n l s e)
 pub accepted_floor : (n : ℕ) (l : List ℕ) (s : Start Seconds) → opened_text n l ≡ Ok s → (k : Line) × (decided Empty (parse_line l) ≡ Ok k) × FloorLine n k s
 accepted_floor n l s e = by_floor n (decided Empty (parse_line l)) s e
 
-pub accepted_sets_up : (n : ℕ) (l : List ℕ) (s : Start Seconds) → opened_text n l ≡ Ok s → SetUp s
-accepted_sets_up n l s e = (accepted_floor n l s e).2.set_up_lem
+pub sets_up : (n : ℕ) (r : Result Line Refusal) (s : Start Seconds) → opened_by n r ≡ Ok s → SetUp s
+sets_up n r s e = (by_floor n r s e).2.set_up_lem
