@@ -41,6 +41,7 @@ pub fn serve_line(
 }
 
 /// Serves a whole job, and adds an answer line for each of its lines; a job over 65,536 bytes is refused as a whole.
+#[tactic(auto, using(crate::proofs::Laws::job_laws))]
 pub fn run_job(text: &[u8], out: &mut String) -> fmt::Result
     ensures text { OnOk result (string_bytes out.new ≡ string_bytes out.old ++ job_text text.now) }
     ensures laws { length text.now ≤ 65536 → JobLaws text.now }

@@ -17,17 +17,17 @@ use toll::{Refusal, Seconds};
 /// A job has at most so many bytes.
 pub const LONGEST: usize = 65536;
 
+// Two loops: one state with a method for a line would hold a `&mut` beside a hall with a ghost field, which no function can hand back in a `Result` yet.
 /// Serves all lines once there is a floor.
 fn serve_all<S: Service>(
     planner: &mut Planner<'_, Seconds>,
     hall: &mut Hall,
-    carrier: Carrier,
+    mut carrier: Carrier,
     lines: Lines<'_>,
     out: &mut String,
 ) -> fmt::Result
     ensures { OnOk result (string_bytes out.new ≡ string_bytes out.old ++ lines_under S.allowed (running (world_of (hall_meaning hall.old) planner.old) carrier) (lines_left lines.entry)) }
 {
-    let mut carrier = carrier;
     for line in lines {
         carrier = serve_line_by::<S>(planner, hall, carrier, line, out)?;
     }

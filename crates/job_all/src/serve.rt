@@ -2,7 +2,7 @@ ghost use Rattle.std.specs.Prelude.{◌≡◌, [], ◌++◌, IfOk, string_bytes,
 ghost use Rattle.floor.specs.Grid.{hall_meaning};
 ghost use Rattle.planner.specs.Served.{world_of};
 ghost use Rattle.jobtext.specs.Replies.{reply_text};
-ghost use Rattle.job_all.specs.Jobs.{refusal_line, answer_line, call_of, standing_of, served_under};
+ghost use Rattle.job_all.specs.Jobs.{refusal_line, answer_line, call_of, served_under};
 ghost use Rattle.job_all.specs.Fitting.{WayFits};
 
 use super::decide::{Service, decide};
@@ -27,16 +27,6 @@ pub fn refuse(out: &mut String, why: Refusal) -> fmt::Result
     ensures { OnOk result (string_bytes out.new ≡ string_bytes out.old ++ refusal_line why) }
 {
     write_reply(out, Reply::No(u32::from(why.number())))
-}
-
-/// Where the job stands with that carrier.
-fn standing(carrier: &Carrier) -> Standing
-    ensures { result ≡ standing_of carrier.now }
-{
-    match carrier {
-        Carrier::Parked(_) => Standing::Parked,
-        Carrier::UnderWay(_) => Standing::UnderWay,
-    }
 }
 
 /// The call that a line makes; a floor line makes none.
@@ -101,11 +91,12 @@ pub fn serve_line_by<S: Service>(
     ensures carrier { IfOk result (λ c. c ≡ (served_under S.allowed (world_of (hall_meaning hall.old) planner.old) carrier text.now).slip) }
     ensures text { OnOk result (string_bytes out.new ≡ string_bytes out.old ++ (served_under S.allowed (world_of (hall_meaning hall.old) planner.old) carrier text.now).text) }
 {
-    match decide::<S>(text, standing(&carrier)) {
+    match decide::<S>(text, Standing::from(&carrier)) {
         Err(why) => {
             refuse(out, why)?;
             Ok(carrier)
         }
+        // One match in the other: a pattern that reaches into a toll, which has a ghost field, is not covered.
         Ok(line) => match call_of(line) {
             None => {
                 refuse(out, Refusal::NotNow)?;
