@@ -21,11 +21,11 @@ use Rattle.jobtext.specs.Parsing.{parse_line}
 use Rattle.jobtext.specs.declared.line.Line.{Line}
 use Rattle.jobtext.specs.declared.line.Line.TheVariants.{Floor, Change, Put, Step, Halt, Query, Tally}
 use Rattle.jobtext.specs.declared.line.Line.TheVariants as line
-use Rattle.job.specs.declared.standing.Standing.{Standing}
-use Rattle.job.specs.declared.standing.Standing.TheVariants.{Empty, Parked, UnderWay}
-use Rattle.job.specs.declared.carrier.Carrier.{Carrier}
-use Rattle.job.specs.declared.carrier.Carrier.TheVariants as carrier
-use Rattle.job.specs.declared.opening.Opening.{Opening}
+use Rattle.job_all.specs.declared.standing.Standing.{Standing}
+use Rattle.job_all.specs.declared.standing.Standing.TheVariants.{Empty, Parked, UnderWay}
+use Rattle.planner.specs.declared.carrier.Carrier.{Carrier}
+use Rattle.planner.specs.declared.carrier.Carrier.TheVariants as carrier
+use Rattle.job_all.specs.declared.opening.Opening.{Opening}
 use Rattle.job.specs.Decisions.{decided}
 
 -- the answer line of a refusal

@@ -1,13 +1,10 @@
-//! A job: lines of text that set a hall up and drive the planner on it, each answered by one line.
+//! A job of planning lines: a hall is set up, and routes are planned and readings taken on it; every other line is refused.
 #![tactic(auto)]
 
-mod carrier;
-mod decide;
 mod job;
-mod opening;
-mod serve;
-mod standing;
+mod planning;
 
-pub use carrier::Carrier;
 pub use job::run_job;
-pub use standing::Standing;
+pub use job_all::Standing;
+pub use planner::Carrier;
+pub use planning::PlanningLines;

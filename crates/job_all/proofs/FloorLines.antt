@@ -1,5 +1,5 @@
 -- A floor line that is accepted.
-use Rattle.std.proofs.Common.{◌≡◌, ℕ, Bool, true, false, List, Ok, Err, Result, refl, subst, arith}
+use Rattle.std.proofs.Common.{◌≡◌, ℕ, Bool, true, false, List, Ok, Err, Result, refl, subst}
 use Rattle.toll.specs.declared.seconds.Seconds.{Seconds}
 use Rattle.toll.specs.declared.refusal.Refusal.{Refusal}
 use Rattle.floor.specs.Grid.{hall_size}
@@ -30,34 +30,31 @@ pub record FloorLine (n : ℕ) (l : Line) (s : Start Seconds) : Type 0 where
 
 settled_ok : (a s : Start Seconds) (r : Result (Unit {0}) Refusal) → settled a r ≡ Ok s → (a ≡ s) × (r ≡ Ok tt)
 settled_ok a s (Ok u) e = (cc, refl)
-settled_ok a s (Err why) e = absurd (let z : ◌≡◌ {A = ℕ} 0 1 = cc in omega arith)
+settled_ok a s (Err why) e = cc
 
 sized_ok : (a s : Start Seconds) (fits : Bool) → sized a fits ≡ Ok s → (a ≡ s) × (fits ≡ true) × SetUp a
 sized_ok a s true e = let k = settled_ok a s (set_up_answer a.records a.floor.places a.target a.place) e in (k.0, refl, k.1)
-sized_ok a s false e = absurd (let z : ◌≡◌ {A = ℕ} 0 1 = cc in omega arith)
-
-never : {X : Type 0} {why : Refusal} {s : Start Seconds} → Err why ≡ Ok s → X
-never e = absurd (let z : ◌≡◌ {A = ℕ} 0 1 = cc in omega arith)
+sized_ok a s false e = cc
 
 opened_floor : (n : ℕ) (l : Line) (s : Start Seconds) → opened n l ≡ Ok s → FloorLine n l s
 opened_floor n (Floor rows columns least target place) s e =
     let k = sized_ok (floor_start n rows columns least target place) s (hall_size rows columns) e in
     record { rows = rows; columns = columns; least = least; target = target; place = place; line_is = refl; start_is = k.0; size = k.1; set_up_lem = subst SetUp k.0 k.2 }
-opened_floor n (Change spot toll) s e = never e
-opened_floor n (Put place) s e = never e
-opened_floor n Route s e = never e
-opened_floor n Step s e = never e
-opened_floor n Halt s e = never e
-opened_floor n (Query place) s e = never e
-opened_floor n Tally s e = never e
+opened_floor n (Change spot toll) s e = cc
+opened_floor n (Put place) s e = cc
+opened_floor n Route s e = cc
+opened_floor n Step s e = cc
+opened_floor n Halt s e = cc
+opened_floor n (Query place) s e = cc
+opened_floor n Tally s e = cc
 
 by_floor : (n : ℕ) (r : Result Line Refusal) (s : Start Seconds) → opened_by n r ≡ Ok s → (l : Line) × (r ≡ Ok l) × FloorLine n l s
-by_floor n (Err why) s e = never e
+by_floor n (Err why) s e = cc
 by_floor n (Ok l) s e = (l, refl, opened_floor n l s e)
 
 -- a line that is accepted where there is no floor
 pub accepted_floor : (n : ℕ) (l : List ℕ) (s : Start Seconds) → opened_text n l ≡ Ok s → (k : Line) × (decided Empty (parse_line l) ≡ Ok k) × FloorLine n k s
 accepted_floor n l s e = by_floor n (decided Empty (parse_line l)) s e
 
-pub accepted_sets_up : (n : ℕ) (l : List ℕ) (s : Start Seconds) → opened_text n l ≡ Ok s → SetUp s
-accepted_sets_up n l s e = (accepted_floor n l s e).2.set_up_lem
+pub sets_up : (n : ℕ) (r : Result Line Refusal) (s : Start Seconds) → opened_by n r ≡ Ok s → SetUp s
+sets_up n r s e = (by_floor n r s e).2.set_up_lem

@@ -17,10 +17,9 @@ use Rattle.planner.specs.Reachable.{Start}
 use Rattle.astar.specs.declared.outcome.Outcome.{Outcome}
 use Rattle.astar.specs.declared.outcome.Outcome.TheVariants.{Solved}
 use Rattle.astar.specs.declared.outcome.Outcome.TheVariants as outcome
+use Rattle.planner.specs.declared.answers.Answer.{Answer}
 use Rattle.planner.specs.declared.answers.Answer.TheVariants.{Done, Place}
 use Rattle.planner.specs.declared.answers.Answer.TheVariants as answer
-use Rattle.planner.specs.declared.answers.Reading.{Reading}
-use Rattle.planner.specs.declared.answers.Route.{Route}
 use Rattle.planner.specs.declared.call.Call.{Call}
 use Rattle.planner.specs.declared.call.Call.TheVariants.{Change, Put, Step, Halt, Read, Tally}
 use Rattle.planner.specs.declared.call.Call.TheVariants as call
@@ -71,17 +70,17 @@ Fine (Ok x) = Unit {0}
 Fine (Err why) = Other why
 
 not_now : Other NotNow
-not_now e = let z : ◌≡◌ {A = ℕ} 0 1 = cc in omega arith
+not_now e = cc
 
 -- while there is no floor
 settled_fine : (s : Start Seconds) (a b : Bool) → Fine (settled s (cond a (Err ShortTable) (cond b (Ok tt) (Err NoStart))))
-settled_fine s true b = λ e. (let z : ◌≡◌ {A = ℕ} 0 1 = cc in omega arith)
+settled_fine s true b = λ e. cc
 settled_fine s false true = tt
-settled_fine s false false = λ e. (let z : ◌≡◌ {A = ℕ} 0 1 = cc in omega arith)
+settled_fine s false false = λ e. cc
 
 sized_fine : (s : Start Seconds) (fits : Bool) → Fine (sized s fits)
 sized_fine s true = settled_fine s (ltb s.records s.floor.places) (ltb s.target s.floor.places && ltb s.place s.floor.places)
-sized_fine s false = λ e. (let z : ◌≡◌ {A = ℕ} 0 1 = cc in omega arith)
+sized_fine s false = λ e. cc
 
 opened_fine : (n : ℕ) (k : Line) → Fine (opened n k)
 opened_fine n (line.Floor rows columns least target place) = sized_fine (floor_start n rows columns least target place) (hall_size rows columns)
@@ -100,14 +99,14 @@ opened_not n (Err why) f = other_13 why f
 -- the calls
 fine_at : (t : Bool) → Fine (if_enough t)
 fine_at true = tt
-fine_at false = λ e. (let z : ◌≡◌ {A = ℕ} 0 1 = cc in omega arith)
+fine_at false = λ e. cc
 
 fine_set : (o : Option (Spot Seconds)) (b : Seconds) → Fine (answer_at seconds_kind o b)
-fine_set None b = λ e. (let z : ◌≡◌ {A = ℕ} 0 1 = cc in omega arith)
+fine_set None b = λ e. cc
 fine_set (Some s) b = fine_at (seconds_kind.le s.least b)
 
 fine_change : (m : Meaning Seconds) (S : State Seconds) (k : ℕ) (b : Seconds) (same : Bool) → Fine (change_by seconds_kind m S k b (cond same (set_answer seconds_kind m k b) (Err OtherFloor))).answer
-fine_change m S k b false = λ e. (let z : ◌≡◌ {A = ℕ} 0 1 = cc in omega arith)
+fine_change m S k b false = λ e. cc
 fine_change m S k b true = go (set_answer seconds_kind m k b) (fine_set (slice_get m.spots k) b)
   where
     go : (r : Result (Unit {0}) Refusal) → Fine r → Fine (change_by seconds_kind m S k b r).answer
@@ -116,64 +115,52 @@ fine_change m S k b true = go (set_answer seconds_kind m k b) (fine_set (slice_g
 
 fine_known : {X : Type 0} (t : Bool) (x : X) → Fine (cond t (Ok x) (Err UnknownPlace))
 fine_known true x = tt
-fine_known false x = λ e. (let z : ◌≡◌ {A = ℕ} 0 1 = cc in omega arith)
+fine_known false x = λ e. cc
 
 fine_way : (count : ℕ) (o : Option (List ℕ × Seconds)) → Fine (way_answer count o)
-fine_way count None = λ e. (let z : ◌≡◌ {A = ℕ} 0 1 = cc in omega arith)
+fine_way count None = λ e. cc
 fine_way count (Some p) = tt
 
 fine_search : (m : Meaning Seconds) (t s : ℕ) (r : Searched Seconds) (o : Outcome) → Fine (search_answer seconds_kind m t s r o)
 fine_search m t s r Solved = fine_way (length r.expanded) (borne_out seconds_kind m r.tree t s)
-fine_search m t s r outcome.NoWay = λ e. (let z : ◌≡◌ {A = ℕ} 0 1 = cc in omega arith)
+fine_search m t s r outcome.NoWay = λ e. cc
 
 fine_route : (m : Meaning Seconds) (S : State Seconds) (s : ℕ) (buffer : List ℕ) (a b c : Bool) → Fine (route_by seconds_kind m S s buffer (cond a (Some OtherFloor) (cond b (Some ShortBuffer) (cond c None (Some UnknownPlace))))).answer
-fine_route m S s buffer true b c = λ e. (let z : ◌≡◌ {A = ℕ} 0 1 = cc in omega arith)
-fine_route m S s buffer false true c = λ e. (let z : ◌≡◌ {A = ℕ} 0 1 = cc in omega arith)
+fine_route m S s buffer true b c = λ e. cc
+fine_route m S s buffer false true c = λ e. cc
 fine_route m S s buffer false false true = fine_search m S.target s (seek seconds_kind m s (length S.tree) S.tree) (seek seconds_kind m s (length S.tree) S.tree).outcome
-fine_route m S s buffer false false false = λ e. (let z : ◌≡◌ {A = ℕ} 0 1 = cc in omega arith)
+fine_route m S s buffer false false false = λ e. cc
 
 fine_next : (o : Option ℕ) → Fine (step_to o)
-fine_next None = λ e. (let z : ◌≡◌ {A = ℕ} 0 1 = cc in omega arith)
+fine_next None = λ e. cc
 fine_next (Some q) = tt
 
 fine_step : (a b c : Bool) (o : Option ℕ) → Fine (cond a (cond b (cond c (Err AtTarget) (step_to o)) (Err UnknownPlace)) (Err OtherFloor))
-fine_step true true true o = λ e. (let z : ◌≡◌ {A = ℕ} 0 1 = cc in omega arith)
+fine_step true true true o = λ e. cc
 fine_step true true false o = fine_next o
-fine_step true false c o = λ e. (let z : ◌≡◌ {A = ℕ} 0 1 = cc in omega arith)
-fine_step false b c o = λ e. (let z : ◌≡◌ {A = ℕ} 0 1 = cc in omega arith)
+fine_step true false c o = λ e. cc
+fine_step false b c o = λ e. cc
 
-module _ (buffer : List ℕ) where
-  done_not : {X : Type 0} (r : Result X Refusal) → Fine r → Not13 (answer_line (answer_by (λ u. Done) r) buffer)
-  done_not (Ok x) f = by_first refl
-  done_not (Err why) f = other_13 why f
-
-  route_not : (r : Result (Route Seconds) Refusal) → Fine r → Not13 (answer_line (answer_by answer.Route r) buffer)
-  route_not (Ok x) f = by_first refl
-  route_not (Err why) f = other_13 why f
-
-  place_not : (r : Result ℕ Refusal) → Fine r → Not13 (answer_line (answer_by Place r) buffer)
-  place_not (Ok x) f = by_first refl
-  place_not (Err why) f = other_13 why f
-
-  reading_not : (r : Result (Reading Seconds) Refusal) → Fine r → Not13 (answer_line (answer_by answer.Reading r) buffer)
-  reading_not (Ok x) f = by_first refl
-  reading_not (Err why) f = other_13 why f
+-- an answer that a result is made into, if it begins with the letter o where the result is no refusal
+result_not : {X : Type 0} (buffer : List ℕ) (f : X → Answer Seconds) (r : Result X Refusal) → ((x : X) → get_or (answer_line (f x) buffer) 0 0 ≡ 111) → Fine r → Not13 (answer_line (answer_by f r) buffer)
+result_not buffer f (Ok x) o k = by_first (o x)
+result_not buffer f (Err why) o k = other_13 why k
 
 module _ (W : World Seconds) (buffer after : List ℕ) where
   call_not : (c : Carrier) (k : Call Seconds) → Not13 (answer_line (served_with seconds_kind W buffer c k).answer after)
-  call_not (Parked p) (Change k b) = done_not after _ (fine_change W.floor W.planner k b (eqb W.floor.places (length W.planner.tree)))
-  call_not (Parked p) (Put q) = done_not after (put_answer (length W.planner.tree) q) (fine_known (ltb q (length W.planner.tree)) q)
-  call_not (Parked p) call.Route = route_not after _ (fine_route W.floor W.planner p.place buffer (not (eqb W.floor.places (length W.planner.tree))) (ltb (length buffer) (length W.planner.tree)) (ltb p.place (length W.planner.tree)))
+  call_not (Parked p) (Change k b) = result_not after (λ u. Done) _ (λ x. refl) (fine_change W.floor W.planner k b (eqb W.floor.places (length W.planner.tree)))
+  call_not (Parked p) (Put q) = result_not after (λ u. Done) (put_answer (length W.planner.tree) q) (λ x. refl) (fine_known (ltb q (length W.planner.tree)) q)
+  call_not (Parked p) call.Route = result_not after answer.Route _ (λ x. refl) (fine_route W.floor W.planner p.place buffer (not (eqb W.floor.places (length W.planner.tree))) (ltb (length buffer) (length W.planner.tree)) (ltb p.place (length W.planner.tree)))
   call_not (Parked p) Step = other_13 NotNow not_now
   call_not (Parked p) Halt = other_13 NotNow not_now
-  call_not (Parked p) (Read q) = reading_not after (read_answer W.planner.tree q) (fine_known (ltb q (length W.planner.tree)) _)
+  call_not (Parked p) (Read q) = result_not after answer.Reading (read_answer W.planner.tree q) (λ x. refl) (fine_known (ltb q (length W.planner.tree)) _)
   call_not (Parked p) Tally = by_first refl
   call_not (UnderWay p) (Change k b) = other_13 NotNow not_now
   call_not (UnderWay p) (Put q) = other_13 NotNow not_now
   call_not (UnderWay p) call.Route = other_13 NotNow not_now
-  call_not (UnderWay p) Step = place_not after (step_answer W.floor W.planner p.place) (fine_step (eqb W.floor.places (length W.planner.tree)) (ltb p.place (length W.planner.tree)) (eqb p.place W.planner.target) (next_step W.floor W.planner.tree p.place))
+  call_not (UnderWay p) Step = result_not after Place (step_answer W.floor W.planner p.place) (λ x. refl) (fine_step (eqb W.floor.places (length W.planner.tree)) (ltb p.place (length W.planner.tree)) (eqb p.place W.planner.target) (next_step W.floor W.planner.tree p.place))
   call_not (UnderWay p) Halt = by_first refl
-  call_not (UnderWay p) (Read q) = reading_not after (read_answer W.planner.tree q) (fine_known (ltb q (length W.planner.tree)) _)
+  call_not (UnderWay p) (Read q) = result_not after answer.Reading (read_answer W.planner.tree q) (λ x. refl) (fine_known (ltb q (length W.planner.tree)) _)
   call_not (UnderWay p) Tally = by_first refl
 
 made_not : (W : World Seconds) (c : Carrier) (k : Option (Call Seconds)) → Not13 (served_call W c k).text

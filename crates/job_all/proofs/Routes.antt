@@ -39,12 +39,12 @@ use Rattle.job_all.proofs.Worlds.{Led, lines_led}
 
 -- what is decided to be served was read
 decided_read : (s : Standing) (o : Option Line) (k : Line) → decided s o ≡ Ok k → o ≡ Some k
-decided_read s None k e = absurd (let z : ◌≡◌ {A = ℕ} 0 1 = cc in omega arith)
+decided_read s None k e = cc
 decided_read s (Some l) k e = go (allowed_now (letter l) s) e
   where
     go : (b : Bool) → cond b (Ok l) (Err NotNow) ≡ Ok k → Some l ≡ Some k
     go true f = let q : l ≡ k = cc in ap (λ (x : Line). Some x) q
-    go false f = absurd (let z : ◌≡◌ {A = ℕ} 0 1 = cc in omega arith)
+    go false f = cc
 
 -- a floor line was accepted, and the world is the one that the lines since led to
 record Opened (n : ℕ) (log : List Exchange) (stage : Stage) : Type 0 where
@@ -127,7 +127,7 @@ record Told (m : Meaning Seconds) (t s : ℕ) (text : List ℕ) : Type 0 where
 module _ (W : World Seconds) (s : ℕ) (turn : Turn Seconds) (d : Served Seconds) where
   -- no answer but that of a route has a toll
   other : {X : Type 0} (a : Answer Seconds) → d.answer ≡ a → (said a).toll ≡ None → CheapestAnswer seconds_kind W s turn d → X
-  other a e n k = absurd (let q : None ≡ Some k.found.toll = sym n ∙ sym (ap (λ (x : Answer Seconds). (said x).toll) e) ∙ k.toll in let z : ◌≡◌ {A = ℕ} 0 1 = cc in omega arith)
+  other a e n k = absurd (let q : None ≡ Some k.found.toll = sym n ∙ sym (ap (λ (x : Answer Seconds). (said x).toll) e) ∙ k.toll in cc)
 
   told_by : (a : Answer Seconds) → d.answer ≡ a → ((said a).refusal ≡ None → CheapestAnswer seconds_kind W s turn d) → accepted (answer_line a d.buffer) ≡ true → Told W.floor W.planner.target s (answer_line a d.buffer)
   told_by (Refused why) e h t = absurd (both_ways false refl t)

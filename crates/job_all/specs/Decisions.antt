@@ -15,6 +15,9 @@ allowed_now c Parked = c == 67 || (c == 80 || (c == 82 || (c == 81 || c == 84)))
 allowed_now c UnderWay = c == 83 || (c == 72 || (c == 81 || c == 84))
 
 -- a line of no form is refused, then one that is not allowed
+abbrev pub decided_under : (ℕ → Standing → Bool) → Standing → Option Line → Result Line Refusal
+decided_under allowed s None = Err BadLine
+decided_under allowed s (Some l) = cond (allowed (letter l) s) (Ok l) (Err NotNow)
+
 abbrev pub decided : Standing → Option Line → Result Line Refusal
-decided s None = Err BadLine
-decided s (Some l) = cond (allowed_now (letter l) s) (Ok l) (Err NotNow)
+decided = decided_under allowed_now

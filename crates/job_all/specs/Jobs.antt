@@ -5,6 +5,7 @@
 -- served_text                  a line once there is a floor
 -- stepped s l                  the line l where the job stands at s: the answer line, and where the job stands then
 -- lines_text, job_text         what some lines print, and what a job prints
+-- opened_under, served_under, stepped_under, lines_under, job_under       the same of a job that serves the lines that are allowed where it stands
 use Rattle.std.specs.Prelude.{◌≡◌, ℕ, ◌*◌, Bool, cond, List, [], ◌∷◌, ◌++◌, length, take, replicate, Some, None, Ok, Err, Option, Result, nat_lt}
 use Rattle.std.specs.Option.{option_map}
 use Rattle.toll.specs.SecondsKind.{seconds, seconds_kind}
@@ -31,7 +32,7 @@ use Rattle.jobtext.specs.declared.line.Line.TheVariants.{Floor, Change, Put, Rou
 use Rattle.job_all.specs.declared.standing.Standing.{Standing}
 use Rattle.job_all.specs.declared.standing.Standing.TheVariants.{Empty, Parked, UnderWay}
 use Rattle.job_all.specs.declared.opening.Opening.{Opening}
-use Rattle.job_all.specs.Decisions.{decided}
+use Rattle.job_all.specs.Decisions.{allowed_now, decided_under}
 
 -- where a job stands between two lines: no floor yet and a table of that many records, or a world and the carrier's slip
 pub data Stage : Type 0 where
@@ -96,13 +97,17 @@ opened n Halt = Err NotNow
 opened n (Query place) = Err NotNow
 opened n Tally = Err NotNow
 
--- the same by its text
+-- the same, where the line may be refused
 abbrev pub opened_by : ℕ → Result Line Refusal → Result (Start Seconds) Refusal
 opened_by n (Err why) = Err why
 opened_by n (Ok l) = opened n l
 
+-- by its text, in a job that serves the lines that are allowed where it stands
+abbrev pub opened_under : (ℕ → Standing → Bool) → ℕ → List ℕ → Result (Start Seconds) Refusal
+opened_under allowed n l = opened_by n (decided_under allowed Empty (parse_line l))
+
 abbrev pub opened_text : ℕ → List ℕ → Result (Start Seconds) Refusal
-opened_text n l = opened_by n (decided Empty (parse_line l))
+opened_text = opened_under allowed_now
 
 -- an accepted floor line answers the number of places, and the carrier is parked
 abbrev pub opened_stage : ℕ → Result (Start Seconds) Refusal → Stepped
@@ -143,23 +148,36 @@ abbrev pub served_by : World Seconds → Carrier → Result Line Refusal → Lin
 served_by W slip (Err why) = refused W slip why
 served_by W slip (Ok l) = served_call W slip (call_of l)
 
--- a line by its text
+-- a line by its text, in a job that serves the lines that are allowed where it stands
+abbrev pub served_under : (ℕ → Standing → Bool) → World Seconds → Carrier → List ℕ → LineServed
+served_under allowed W slip l = served_by W slip (decided_under allowed (standing_of slip) (parse_line l))
+
 abbrev pub served_text : World Seconds → Carrier → List ℕ → LineServed
-served_text W slip l = served_by W slip (decided (standing_of slip) (parse_line l))
+served_text = served_under allowed_now
 
 abbrev pub served_stage : LineServed → Stepped
 served_stage d = record { stage = running d.world d.slip; text = d.text }
 
--- one line
+-- one line of such a job
+abbrev pub stepped_under : (ℕ → Standing → Bool) → Stage → List ℕ → Stepped
+stepped_under allowed (empty n) l = opened_stage n (opened_under allowed n l)
+stepped_under allowed (running W slip) l = served_stage (served_under allowed W slip l)
+
+-- what some of its lines print, one after the other
+abbrev pub lines_under : (ℕ → Standing → Bool) → Stage → List (List ℕ) → List ℕ
+lines_under allowed s [] = []
+lines_under allowed s (l ∷ ls) = (stepped_under allowed s l).text ++ lines_under allowed (stepped_under allowed s l).stage ls
+
+-- what it prints: an over-long job is refused as a whole
+abbrev pub job_under : (ℕ → Standing → Bool) → List ℕ → List ℕ
+job_under allowed text = cond (nat_lt 65536 (length text)) (refusal_line BadLine) (lines_under allowed (empty 1024) (lines text))
+
+-- the same of a job that serves every line in its turn
 abbrev pub stepped : Stage → List ℕ → Stepped
-stepped (empty n) l = opened_stage n (opened_text n l)
-stepped (running W slip) l = served_stage (served_text W slip l)
+stepped = stepped_under allowed_now
 
--- what some lines print, one after the other
 abbrev pub lines_text : Stage → List (List ℕ) → List ℕ
-lines_text s [] = []
-lines_text s (l ∷ ls) = (stepped s l).text ++ lines_text (stepped s l).stage ls
+lines_text = lines_under allowed_now
 
--- what a job prints: an over-long one is refused as a whole
 abbrev pub job_text : List ℕ → List ℕ
-job_text text = cond (nat_lt 65536 (length text)) (refusal_line BadLine) (lines_text (empty 1024) (lines text))
+job_text = job_under allowed_now

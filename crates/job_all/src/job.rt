@@ -1,68 +1,71 @@
-ghost use Rattle.std.specs.Prelude.{◌≡◌, ◌≤◌, ◌++◌, length, string_bytes, OnOk};
+ghost use Rattle.std.specs.Prelude.{◌≡◌, ◌++◌, length, string_bytes, OnOk};
 ghost use Rattle.floor.specs.Grid.{hall_meaning};
 ghost use Rattle.planner.specs.Served.{world_of};
+ghost use Rattle.jobtext.specs.Left.{lines_left};
 ghost use Rattle.jobtext.specs.Lines.{lines};
-ghost use Rattle.job_all.specs.Jobs.{empty, running, lines_text, job_text};
-ghost use Rattle.job_all.specs.JobLaws.{JobLaws};
+ghost use Rattle.job_all.specs.Jobs.{empty, running, lines_under, job_under};
 
-use super::opening::{Opening, open_line};
-use super::serve::{refuse, serve_line};
+use super::decide::Service;
+use super::opening::{Opening, open_line_by};
+use super::serve::{refuse, serve_line_by};
 use floor::{Floor, Hall};
-use jobtext::lines::first_line;
+use jobtext::lines::Lines;
 use planner::{Carrier, Planner, Record};
 use std::fmt;
 use toll::{Refusal, Seconds};
 
+/// A job has at most so many bytes.
+pub const LONGEST: usize = 65536;
+
+// Two loops: one state with a method for a line would hold a `&mut` beside a hall with a ghost field, which no function can hand back in a `Result` yet.
 /// Serves all lines once there is a floor.
-fn serve_all(
+fn serve_all<S: Service>(
     planner: &mut Planner<'_, Seconds>,
     hall: &mut Hall,
-    carrier: Carrier,
-    text: &[u8],
+    mut carrier: Carrier,
+    lines: Lines<'_>,
     out: &mut String,
 ) -> fmt::Result
-    ensures { OnOk result (string_bytes out.new ≡ string_bytes out.old ++ lines_text (running (world_of (hall_meaning hall.old) planner.old) carrier) (lines text.now)) }
+    ensures { OnOk result (string_bytes out.new ≡ string_bytes out.old ++ lines_under S.allowed (running (world_of (hall_meaning hall.old) planner.old) carrier) (lines_left lines.entry)) }
 {
-    let mut carrier = carrier;
-    let mut left = text;
-    while left.len() > 0 {
-        let (line, more) = first_line(left);
-        carrier = serve_line(planner, hall, carrier, line, out)?;
-        left = more;
+    for line in lines {
+        carrier = serve_line_by::<S>(planner, hall, carrier, line, out)?;
     }
     Ok(())
 }
 
 /// Serves all lines from the first on: until a floor is accepted only a floor line is allowed.
-fn run_lines(table: &mut [Record<Seconds>], text: &[u8], out: &mut String) -> fmt::Result
-    ensures { OnOk result (string_bytes out.new ≡ string_bytes out.old ++ lines_text (empty (length table.old)) (lines text.now)) }
+fn run_lines<S: Service>(
+    table: &mut [Record<Seconds>],
+    text: &[u8],
+    out: &mut String,
+) -> fmt::Result
+    ensures { OnOk result (string_bytes out.new ≡ string_bytes out.old ++ lines_under S.allowed (empty (length table.old)) (lines text.now)) }
 {
-    let mut left = text;
-    while left.len() > 0 {
-        let (line, more) = first_line(left);
-        left = more;
-        if let Some(opening) = open_line(table, line, out)? {
-            let Opening {
-                hall,
+    let mut lines = Lines::new(text);
+    while let Some(line) = lines.next() {
+        if let Some(
+            Opening {
+                mut hall,
                 target,
                 place,
-            } = opening;
-            let mut hall = hall;
+            },
+        ) = open_line_by::<S>(table, line, out)?
+        {
             let (mut planner, slip) = Planner::make(table, &hall, target, place);
-            return serve_all(&mut planner, &mut hall, Carrier::Parked(slip), left, out);
+            return serve_all::<S>(&mut planner, &mut hall, Carrier::Parked(slip), lines, out);
         }
     }
     Ok(())
 }
 
 /// Serves a whole job, and adds an answer line for each of its lines; a job over 65,536 bytes is refused as a whole.
-pub fn run_job(text: &[u8], out: &mut String) -> fmt::Result
-    ensures text { OnOk result (string_bytes out.new ≡ string_bytes out.old ++ job_text text.now) }
-    ensures laws { length text.now ≤ 65536 → JobLaws text.now }
+pub fn run_job_by<S: Service>(text: &[u8], out: &mut String) -> fmt::Result
+    ensures { OnOk result (string_bytes out.new ≡ string_bytes out.old ++ job_under S.allowed text.now) }
 {
-    if text.len() > 65536 {
+    if text.len() > LONGEST {
         return refuse(out, Refusal::BadLine);
     }
     let mut table = [Record::<Seconds>::blank(); 1024];
-    run_lines(&mut table, text, out)
+    run_lines::<S>(&mut table, text, out)
 }

@@ -1,13 +1,13 @@
 ghost use Rattle.std.specs.Prelude.{◌≡◌, ◌++◌, length, IfOk, string_bytes, OnOk};
 ghost use Rattle.std.specs.Result.{result_map_both};
-ghost use Rattle.job_all.specs.Jobs.{start_of, opened, opened_text, opened_stage, found_by};
+ghost use Rattle.job_all.specs.Jobs.{start_of, opened, opened_under, opened_stage, found_by};
 
-use super::decide::decide;
-use super::serve::refuse;
+use super::decide::{Service, decide};
+use super::serve::{refuse, write_reply};
 use super::standing::Standing;
 use floor::{Floor, Hall};
 use jobtext::line::Line;
-use jobtext::text::write_ok;
+use jobtext::text::Reply;
 use planner::{Planner, Record};
 use std::fmt;
 use toll::{Refusal, Seconds};
@@ -44,28 +44,25 @@ fn open_floor(table: &[Record<Seconds>], line: Line) -> Result<Opening, Refusal>
 }
 
 /// Looks at one line while there is no floor, and adds its answer line.
-pub fn open_line(
+pub fn open_line_by<S: Service>(
     table: &[Record<Seconds>],
     text: &[u8],
     out: &mut String,
 ) -> Result<Option<Opening>, fmt::Error>
-    ensures opening { IfOk result (λ o. found_by (length table.now) (opened_text (length table.now) text.now) o) }
-    ensures text { OnOk result (string_bytes out.new ≡ string_bytes out.old ++ (opened_stage (length table.now) (opened_text (length table.now) text.now)).text) }
+    ensures opening { IfOk result (λ o. found_by (length table.now) (opened_under S.allowed (length table.now) text.now) o) }
+    ensures text { OnOk result (string_bytes out.new ≡ string_bytes out.old ++ (opened_stage (length table.now) (opened_under S.allowed (length table.now) text.now)).text) }
 {
-    match decide(text, Standing::Empty) {
+    match decide::<S>(text, Standing::Empty).and_then(|line| open_floor(table, line)) {
+        Ok(opening) => {
+            write_reply(
+                out,
+                Reply::Fields(&[Some(u32::from(opening.hall.places()))]),
+            )?;
+            Ok(Some(opening))
+        }
         Err(why) => {
             refuse(out, why)?;
             Ok(None)
         }
-        Ok(line) => match open_floor(table, line) {
-            Ok(opening) => {
-                write_ok(out, &[Some(u32::from(opening.hall.places()))])?;
-                Ok(Some(opening))
-            }
-            Err(why) => {
-                refuse(out, why)?;
-                Ok(None)
-            }
-        },
     }
 }

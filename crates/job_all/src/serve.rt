@@ -1,33 +1,32 @@
 ghost use Rattle.std.specs.Prelude.{◌≡◌, [], ◌++◌, IfOk, string_bytes, OnOk};
 ghost use Rattle.floor.specs.Grid.{hall_meaning};
 ghost use Rattle.planner.specs.Served.{world_of};
-ghost use Rattle.job_all.specs.Jobs.{refusal_line, answer_line, call_of, standing_of, served_text};
+ghost use Rattle.jobtext.specs.Replies.{reply_text};
+ghost use Rattle.job_all.specs.Jobs.{refusal_line, answer_line, call_of, served_under};
 ghost use Rattle.job_all.specs.Fitting.{WayFits};
 
-use super::decide::decide;
+use super::decide::{Service, decide};
 use super::standing::Standing;
-use floor::{Floor, Hall};
+use floor::Hall;
 use jobtext::line::Line;
-use jobtext::text::{write_no, write_ok, write_route};
+use jobtext::text::Reply;
 use planner::{Answer, Call, Carrier, Planner, Reading};
 use std::fmt;
 use toll::{Refusal, Seconds};
+
+/// Adds an answer line.
+pub fn write_reply(out: &mut String, reply: Reply<'_>) -> fmt::Result
+    ensures { OnOk result (string_bytes out.new ≡ string_bytes out.old ++ reply_text reply.entry) }
+{
+    write!(out, "{reply}")?;
+    Ok(())
+}
 
 /// Adds the answer line of a refusal.
 pub fn refuse(out: &mut String, why: Refusal) -> fmt::Result
     ensures { OnOk result (string_bytes out.new ≡ string_bytes out.old ++ refusal_line why) }
 {
-    write_no(out, u32::from(why.number()))
-}
-
-/// Where the job stands with that carrier.
-fn standing(carrier: &Carrier) -> Standing
-    ensures { result ≡ standing_of carrier.now }
-{
-    match carrier {
-        Carrier::Parked(_) => Standing::Parked,
-        Carrier::UnderWay(_) => Standing::UnderWay,
-    }
+    write_reply(out, Reply::No(u32::from(why.number())))
 }
 
 /// The call that a line makes; a floor line makes none.
@@ -53,15 +52,9 @@ fn call_of(line: Line) -> Option<Call<Seconds>>
 fn write_reading(out: &mut String, reading: Reading<Seconds>) -> fmt::Result
     ensures { OnOk result (string_bytes out.new ≡ string_bytes out.old ++ answer_line (Answer.Reading reading) []) }
 {
-    let toll = match reading.toll {
-        Some(toll) => Some(toll.value()),
-        None => None,
-    };
-    let next = match reading.next {
-        Some(place) => Some(u32::from(place)),
-        None => None,
-    };
-    write_ok(out, &[toll, next])
+    let toll = reading.toll.map(|toll| toll.value());
+    let next = reading.next.map(u32::from);
+    write_reply(out, Reply::Fields(&[toll, next]))
 }
 
 /// Adds the answer line of a call; the way of a route stands at the front of the buffer.
@@ -71,36 +64,39 @@ fn write_answer(out: &mut String, answer: Answer<Seconds>, way: &[u16]) -> fmt::
 {
     match answer {
         Answer::Refused(why) => refuse(out, why),
-        Answer::Done => write_ok(out, &[]),
-        Answer::Route(route) => write_route(
+        Answer::Done => write_reply(out, Reply::Fields(&[])),
+        Answer::Route(route) => write_reply(
             out,
-            route.toll.value(),
-            route.count,
-            &way[0..route.length as usize],
+            Reply::Route {
+                toll: route.toll.value(),
+                count: route.count,
+                way: &way[..usize::from(route.length)],
+            },
         ),
-        Answer::Place(place) => write_ok(out, &[Some(place)]),
+        Answer::Place(place) => write_reply(out, Reply::Fields(&[Some(place)])),
         Answer::Reading(reading) => write_reading(out, reading),
-        Answer::Tally(tally) => write_ok(out, &[Some(tally)]),
+        Answer::Tally(tally) => write_reply(out, Reply::Fields(&[Some(tally)])),
     }
 }
 
 /// Serves one line once there is a floor, and adds its answer line.
-pub fn serve_line(
+pub fn serve_line_by<S: Service>(
     planner: &mut Planner<'_, Seconds>,
     hall: &mut Hall,
     carrier: Carrier,
     text: &[u8],
     out: &mut String,
 ) -> Result<Carrier, fmt::Error>
-    ensures world { OnOk result (world_of (hall_meaning hall.new) planner.new ≡ (served_text (world_of (hall_meaning hall.old) planner.old) carrier text.now).world) }
-    ensures carrier { IfOk result (λ c. c ≡ (served_text (world_of (hall_meaning hall.old) planner.old) carrier text.now).slip) }
-    ensures text { OnOk result (string_bytes out.new ≡ string_bytes out.old ++ (served_text (world_of (hall_meaning hall.old) planner.old) carrier text.now).text) }
+    ensures world { OnOk result (world_of (hall_meaning hall.new) planner.new ≡ (served_under S.allowed (world_of (hall_meaning hall.old) planner.old) carrier text.now).world) }
+    ensures carrier { IfOk result (λ c. c ≡ (served_under S.allowed (world_of (hall_meaning hall.old) planner.old) carrier text.now).slip) }
+    ensures text { OnOk result (string_bytes out.new ≡ string_bytes out.old ++ (served_under S.allowed (world_of (hall_meaning hall.old) planner.old) carrier text.now).text) }
 {
-    match decide(text, standing(&carrier)) {
+    match decide::<S>(text, Standing::from(&carrier)) {
         Err(why) => {
             refuse(out, why)?;
             Ok(carrier)
         }
+        // One match in the other: a pattern that reaches into a toll, which has a ghost field, is not covered.
         Ok(line) => match call_of(line) {
             None => {
                 refuse(out, Refusal::NotNow)?;

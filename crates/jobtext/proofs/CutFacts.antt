@@ -1,35 +1,32 @@
--- What a search for a mark has passed.
-use Rattle.std.proofs.Common.{◌≡◌, ℕ, ◌+◌, ◌<◌, ◌≤◌, cond, List, [], ◌∷◌, ◌++◌, length, get_or, take, drop, Some, None, sym, ap, ◌∙◌, append_assoc}
-use Rattle.std.proofs.lemmas.List.{at_drop_more, at_drop_all, take_more, take_all, append-nil}
-use Rattle.std.proofs.lemmas.Bool.{eq-eqb, ne_eqb}
+-- A cut at the first mark, by where it stands.
+use Rattle.std.proofs.Common.{◌≡◌, ℕ, suc, ◌+◌, ◌<◌, ◌≤◌, true, false, cond, not, eqb, ◌==◌, List, [], ◌∷◌, length, take, drop, Some, None, refl, ap, arith}
+use Rattle.std.proofs.lemmas.Bool.Decides.{nat_tests}
+use Rattle.std.specs.List.{position_or_len, position}
 use Rattle.jobtext.specs.Bytes.{front, rest}
 
--- No mark is among the first i bytes.
-pub record Passed (mark : ℕ) (xs : List ℕ) (i : ℕ) : Type 0 where
-  pub before : take i xs ++ front mark (drop i xs) ≡ front mark xs
-  pub after : rest mark (drop i xs) ≡ rest mark xs
+-- Where the first mark stands; the length if there is none.
+abbrev place : ℕ → List ℕ → ℕ
+place mark bs = position_or_len (λ b. b == mark) bs
 
-module _ (mark : ℕ) (xs : List ℕ) (i : ℕ) (p : Passed mark xs i) where
-  pub passed_more : i < length xs → (get_or xs i 0 ≡ mark → ⊥) → Passed mark xs (i + 1)
-  passed_more h ne =
-      let t = ne_eqb (get_or xs i 0) mark ne in
-      let f : front mark (drop i xs) ≡ get_or xs i 0 ∷ front mark (drop (i + 1) xs) =
-      at_drop_more (front mark) xs i 0 h ∙ ap (λ b. cond b [] (get_or xs i 0 ∷ front mark (drop (i + 1) xs))) t in
-      let g : rest mark (drop i xs) ≡ rest mark (drop (i + 1) xs) =
-      at_drop_more (rest mark) xs i 0 h ∙ ap (λ b. cond b (Some (drop (i + 1) xs)) (rest mark (drop (i + 1) xs))) t in
-      record { before = rw (take_more xs i 0 h, append_assoc, ← f) p.before; after = sym g ∙ p.after }
+cut_there : (mark : ℕ) (bs : List ℕ) → place mark bs < length bs → (take (place mark bs) bs ≡ front mark bs) × (Some (drop (suc (place mark bs)) bs) ≡ rest mark bs)
+cut_there mark [] h = absurd (omega arith)
+cut_there mark (b ∷ bs) h =
+    elim (eqb b mark) as (λ t. cond (not t) (1 + place mark bs) 0 < length (b ∷ bs) → (take (cond (not t) (1 + place mark bs) 0) (b ∷ bs) ≡ cond t [] (b ∷ front mark bs)) × (Some (drop (suc (cond (not t) (1 + place mark bs) 0)) (b ∷ bs)) ≡ cond t (Some bs) (rest mark bs)))
+    [ true ↦ λ k. (refl, refl) | false ↦ λ k. let q = cut_there mark bs (omega arith) in let one : 1 + place mark bs ≡ suc (place mark bs) = omega arith in (rw one (ap (λ t. b ∷ t) q.0), rw one q.1) ] h
 
-  pub passed_here : i < length xs → get_or xs i 0 ≡ mark → (take i xs ≡ front mark xs) × (Some (drop (i + 1) xs) ≡ rest mark xs)
-  passed_here h e =
-      let t = eq-eqb (get_or xs i 0) mark e in
-      let f : front mark (drop i xs) ≡ [] =
-      at_drop_more (front mark) xs i 0 h ∙ ap (λ b. cond b [] (get_or xs i 0 ∷ front mark (drop (i + 1) xs))) t in
-      let g : rest mark (drop i xs) ≡ Some (drop (i + 1) xs) =
-      at_drop_more (rest mark) xs i 0 h ∙ ap (λ b. cond b (Some (drop (i + 1) xs)) (rest mark (drop (i + 1) xs))) t in
-      (sym (append-nil (take i xs)) ∙ ap (λ ys. take i xs ++ ys) (sym f) ∙ p.before, sym g ∙ p.after)
+cut_nowhere : (mark : ℕ) (bs : List ℕ) → length bs ≤ place mark bs → (bs ≡ front mark bs) × (None ≡ rest mark bs)
+cut_nowhere mark [] h = (refl, refl)
+cut_nowhere mark (b ∷ bs) h =
+    elim (eqb b mark) as (λ t. length (b ∷ bs) ≤ cond (not t) (1 + place mark bs) 0 → (b ∷ bs ≡ cond t [] (b ∷ front mark bs)) × (None ≡ cond t (Some bs) (rest mark bs)))
+    [ true ↦ λ k. absurd (omega arith) | false ↦ λ k. let q = cut_nowhere mark bs (omega arith) in (ap (λ t. b ∷ t) q.0, q.1) ] h
 
-  pub passed_all : length xs ≤ i → (xs ≡ front mark xs) × (None ≡ rest mark xs)
-  passed_all h = (
-    sym (take_all i xs h) ∙ sym (append-nil (take i xs)) ∙ ap (λ ys. take i xs ++ ys) (sym (at_drop_all (front mark) xs i h)) ∙ p.before,
-    sym (at_drop_all (rest mark) xs i h) ∙ p.after,
-  )
+pub cut_found : (mark : ℕ) (bs : List ℕ) (i : ℕ) → Some i ≡ position (λ b. b == mark) bs → (take i bs ≡ front mark bs) × (Some (drop (i + 1) bs) ≡ rest mark bs)
+cut_found mark bs i e =
+    let within : place mark bs < length bs = grind (arith, nat_tests) in
+    let same : i ≡ place mark bs = grind (arith, nat_tests) in
+    let q = cut_there mark bs within in
+    let next : i + 1 ≡ suc (place mark bs) = omega arith in
+    (rw same q.0, rw next q.1)
+
+pub cut_none : (mark : ℕ) (bs : List ℕ) → None ≡ position (λ b. b == mark) bs → (bs ≡ front mark bs) × (None ≡ rest mark bs)
+cut_none mark bs e = cut_nowhere mark bs (grind (arith, nat_tests))

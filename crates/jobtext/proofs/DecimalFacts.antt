@@ -1,7 +1,11 @@
 -- The words that are numbers are exactly the decimals of the numbers of 32 bits.
-use Rattle.std.proofs.Common.{◌≡◌, ℕ, ◌^◌, ◌<◌, ◌≤◌, true, List, length, get_or, Some, decimal, sym, ap, ◌∙◌, ⊎_elim, arith, rules}
-use Rattle.std.proofs.lemmas.Fmt.{digits_decimal, digits_value-decimal, length-decimal-le, decimal_nonempty, first_decimal, decimal_digit, decimal-digits_value}
-use Rattle.std.proofs.lemmas.Str.Parse.{IsNumeralModel, numerals_by_fold}
+use Rattle.std.proofs.Common.{◌≡◌, ℕ, ◌^◌, ◌<◌, ◌≤◌, true, List, length, get_or, Some, None, Ok, Err, decimal, Option, Result, sym, ap, ◌∙◌, ⊎_elim, arith, rules}
+use Rattle.std.specs.Result.{MatchResult, result_ok}
+use Rattle.std.specs.Str.{IsUtf8}
+use Rattle.std.specs.Str.Parse.{ParsesUnsigned}
+use Rattle.std.proofs.lemmas.Str.{IsUtf8-from_ascii}
+use Rattle.std.proofs.lemmas.Fmt.{IsAscii-from_digits, digits_decimal, digits_value-decimal, length-decimal-le, decimal_nonempty, first_decimal, decimal_digit, decimal-digits_value}
+use Rattle.std.proofs.lemmas.Str.Parse.{IsNumeralModel, numerals_by_fold, parse_digits}
 use Rattle.std.proofs.lemmas.Bool.{cases_lt}
 use Rattle.std.proofs.lemmas.Bool.Decides.{nat_tests}
 use Rattle.jobtext.specs.Numbers.{plain, digits, value, number_in}
@@ -37,3 +41,21 @@ reads_only w n e =
     let some : 0 < length w = grind (arith, nat_tests) in
     let zero_alone : get_or w 0 0 ≡ 48 → length w ≡ 1 = λ q. grind (arith, nat_tests) in
     (sym (decimal-digits_value numerals w ds some zero_alone (wide _ n v small)) ∙ ap decimal v, small)
+
+-- What reads as the word does, reads a number's decimal as the number.
+pub read_back : (w : List ℕ) (r : Option ℕ) → r ≡ number_in w → (n : ℕ) → n < 4294967296 → w ≡ decimal n → r ≡ Some n
+read_back w r e n h k = e ∙ ap number_in k ∙ reads_back n h
+
+-- Digits are text.
+pub digits_text : (w : List ℕ) → digits w ≡ true → IsUtf8 w
+digits_text w d = IsUtf8-from_ascii w (IsAscii-from_digits w (numerals.to w d))
+
+-- What the library reads of a plain word of digits.
+pub parsed : {E : Type 0} (w : List ℕ) (r : Result ℕ E) → ParsesUnsigned 32 10 w r → plain w ≡ true → digits w ≡ true → result_ok r ≡ number_in w
+parsed {E} w (Ok x) h p d = let o = parse_digits numerals {E = E} 32 w (Ok x) h d in grind (arith, nat_tests)
+parsed {E} w (Err e) h p d = let o = parse_digits numerals {E = E} 32 w (Err e) h d in grind (arith, nat_tests)
+
+-- Text is read as text.
+pub text_read : {T E : Type 0} (P : T → Type 0) (Q : E → Type 0) (w : List ℕ) (r : Result T E) → MatchResult r P (λ e. ¬ (IsUtf8 w) × Q e) → IsUtf8 w → result_ok r ≡ None → ⊥
+text_read P Q w (Ok x) h t e = cc
+text_read P Q w (Err x) h t e = h.0 t

@@ -19,24 +19,21 @@ front_rest [] = refl
 front_rest (b ∷ bs) =
     ⊎_elim (λ (e : b ≡ 32). grind (arith, nat_tests)) (λ (n : b ≡ 32 → ⊥). let k = front_rest bs in grind (arith, nat_tests)) (cases_eq b 32)
 
-pub never : {A B : Type 0} (x : A) → None ≡ Some x → B
-never x e = let z : ◌≡◌ {A = ℕ} 0 1 = cc in absurd (omega arith)
-
 pub then_inv : {A B : Type 0} (o : Option A) (f : A → Option B) (y : B) → then o f ≡ Some y → (x : A) × (o ≡ Some x) × (f x ≡ Some y)
-then_inv None f y e = never y e
+then_inv None f y e = cc
 then_inv (Some x) f y e = (x, refl, e)
 
 pub ended_inv : {A : Type 0} (r : Option (List ℕ)) (x y : A) → ended r x ≡ Some y → (r ≡ None) × (x ≡ y)
 ended_inv None x y e = (refl, cc)
-ended_inv (Some bs) x y e = never y e
+ended_inv (Some bs) x y e = cc
 
 pub single_inv : (bs : List ℕ) (c : ℕ) → single bs ≡ Some c → bs ≡ c ∷ []
-single_inv [] c e = never c e
+single_inv [] c e = cc
 single_inv (b ∷ []) c e = let q : b ≡ c = cc in ap (λ (n : ℕ). n ∷ []) q
-single_inv (b ∷ d ∷ bs) c e = never c e
+single_inv (b ∷ d ∷ bs) c e = cc
 
 number_only : (r : Option (List ℕ)) (n : ℕ) (q : Option (List ℕ)) → next_number r ≡ Some (n, q) → (bytes r ≡ spaced n ++ bytes q) × (n < 4294967296)
-number_only None n q e = never (n, q) e
+number_only None n q e = cc
 number_only (Some bs) n q e =
     let t = then_inv (number_in (front 32 bs)) (λ m. Some (m, rest 32 bs)) (n, q) e in
     let p = reads_only (front 32 bs) t.0 t.1 in

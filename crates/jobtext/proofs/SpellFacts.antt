@@ -7,7 +7,7 @@ use Rattle.jobtext.specs.declared.line.Line.TheVariants.{Floor, Change, Put, Rou
 use Rattle.jobtext.specs.Bytes.{front, rest}
 use Rattle.jobtext.specs.LineTexts.{letter, numbers, spaced, text_of, Spells}
 use Rattle.jobtext.specs.Parsing.{then, next_number, ended, floor_line, change_line, one_number, by_letter, single, parse_line}
-use Rattle.jobtext.proofs.ParseFacts.{bytes, front_rest, never, then_inv, ended_inv, single_inv, next_only, next_back}
+use Rattle.jobtext.proofs.ParseFacts.{bytes, front_rest, then_inv, ended_inv, single_inv, next_only, next_back}
 
 -- The steps of reading a line: what is made of the number just read and of what is left.
 abbrev floor_5 : ℕ → ℕ → ℕ → ℕ → ℕ × Option (List ℕ) → Option Line
@@ -85,7 +85,7 @@ letter_only c r l =
     (either 83 c _ _ r l (bare_only Step refl r l)
     (either 72 c _ _ r l (bare_only Halt refl r l)
     (either 81 c _ _ r l (one_only Query 81 (λ n. refl) (λ n. refl) r l)
-    (either 84 c _ _ r l (bare_only Tally refl r l) (never l))))))))
+    (either 84 c _ _ r l (bare_only Tally refl r l) (λ e. cc))))))))
 
 -- What is read as a line spells it.
 pub parse_only : (bs : List ℕ) (l : Line) → parse_line bs ≡ Some l → Spells bs l

@@ -42,6 +42,10 @@ change_line r = then (next_number r) (λ a. then (next_number a.1) (λ b. ended 
 abbrev pub one_number : (ℕ → Line) → Option (List ℕ) → Option Line
 one_number f r = then (next_number r) (λ a. ended a.1 (f a.0))
 
+-- One number and the end.
+abbrev pub only_number : Option (List ℕ) → Option ℕ
+only_number r = then (next_number r) (λ a. ended a.1 a.0)
+
 -- The line that begins with the letter c (in turn F, C, P, R, S, H, Q, T), read from what is left behind it.
 abbrev pub by_letter : ℕ → Option (List ℕ) → Option Line
 by_letter c r =

@@ -7,10 +7,8 @@ pub fn cut(text: &[u8], mark: u8) -> (&[u8], Option<&[u8]>)
     ensures before { result.0.now ≡ front mark text.now }
     ensures after { option_map (λ x. x.now) result.1 ≡ rest mark text.now }
 {
-    for (i, b) in text.iter().enumerate() {
-        if *b == mark {
-            return (&text[0..i], Some(&text[i + 1..]));
-        }
+    match text.iter().position(|b| *b == mark) {
+        Some(i) => (&text[..i], Some(&text[i + 1..])),
+        None => (text, None),
     }
-    (text, None)
 }

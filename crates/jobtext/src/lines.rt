@@ -1,6 +1,7 @@
 ghost use Rattle.std.specs.Prelude.{◌≡◌, ◌<◌, ◌∷◌, length};
 ghost use Rattle.jobtext.specs.Bytes.{front};
 ghost use Rattle.jobtext.specs.Lines.{behind, lines, LineLaws};
+ghost use Rattle.jobtext.specs.Left.{lines_left};
 
 use super::cut::cut;
 
@@ -13,8 +14,39 @@ pub fn first_line(text: &[u8]) -> (&[u8], &[u8])
     ensures laws { LineLaws }
 {
     let (line, left) = cut(text, b'\n');
-    match left {
-        Some(more) => (line, more),
-        None => (line, &[]),
+    (line, left.unwrap_or(&[]))
+}
+
+/// The lines of a text in turn, without their newlines; the last may lack it.
+#[derive(Clone, Drop)]
+pub struct Lines<'a> {
+    left: &'a [u8],
+}
+
+impl<'a> Lines<'a> {
+    /// All lines of the text.
+    pub fn new(text: &'a [u8]) -> Self
+        ensures { lines_left result ≡ lines text.now }
+    {
+        Lines { left: text }
+    }
+}
+
+impl<'a> Iterator for Lines<'a> {
+    ghost use Rattle.std.specs.Iterator.{YieldsFirstRef, item_count};
+
+    type Item = &'a [u8];
+
+    ghost next_gives = { YieldsFirstRef lines_left };
+
+    ghost remaining = { item_count lines_left };
+
+    fn next(&mut self) -> Option<&'a [u8]> {
+        if self.left.is_empty() {
+            return None;
+        }
+        let (line, left) = first_line(self.left);
+        self.left = left;
+        Some(line)
     }
 }

@@ -1,7 +1,7 @@
 ghost use Rattle.std.specs.Prelude.{◌≡◌, Some};
 ghost use Rattle.std.specs.Option.{option_map};
 ghost use Rattle.jobtext.specs.LineTexts.{Spells};
-ghost use Rattle.jobtext.specs.Parsing.{next_number, ended, floor_line, change_line, one_number, by_letter, parse_line};
+ghost use Rattle.jobtext.specs.Parsing.{next_number, ended, floor_line, change_line, only_number, by_letter, parse_line};
 
 use super::cut::cut;
 use super::line::Line;
@@ -16,14 +16,11 @@ fn next_number(left: Option<&[u8]>) -> Option<(u32, Option<&[u8]>)>
     Some((number, left))
 }
 
-/// The line, if nothing is left behind it.
-fn ended(left: Option<&[u8]>, line: Line) -> Option<Line>
-    ensures { result ≡ ended (option_map (λ x. x.now) left.entry) line }
+/// The value, if nothing is left behind it.
+fn ended<T: Copy>(left: Option<&[u8]>, value: T) -> Option<T>
+    ensures { result ≡ ended (option_map (λ x. x.now) left.entry) value }
 {
-    match left {
-        None => Some(line),
-        Some(_) => None,
-    }
+    left.is_none().then_some(value)
 }
 
 /// A floor: rows, columns, least, target, place.
@@ -56,20 +53,12 @@ fn change_line(left: Option<&[u8]>) -> Option<Line>
     ended(left, Line::Change { spot, toll })
 }
 
-/// A put: place.
-fn put_line(left: Option<&[u8]>) -> Option<Line>
-    ensures { result ≡ one_number Line.Put (option_map (λ x. x.now) left.entry) }
+/// One number, and nothing behind it.
+fn one_number(left: Option<&[u8]>) -> Option<u32>
+    ensures { result ≡ only_number (option_map (λ x. x.now) left.entry) }
 {
-    let (place, left) = next_number(left)?;
-    ended(left, Line::Put(place))
-}
-
-/// A query: place.
-fn query_line(left: Option<&[u8]>) -> Option<Line>
-    ensures { result ≡ one_number Line.Query (option_map (λ x. x.now) left.entry) }
-{
-    let (place, left) = next_number(left)?;
-    ended(left, Line::Query(place))
+    let (number, left) = next_number(left)?;
+    ended(left, number)
 }
 
 /// The line that begins with the letter, read from what is left behind it.
@@ -79,11 +68,11 @@ fn by_letter(letter: char, left: Option<&[u8]>) -> Option<Line>
     match letter {
         'F' => floor_line(left),
         'C' => change_line(left),
-        'P' => put_line(left),
+        'P' => one_number(left).map(Line::Put),
         'R' => ended(left, Line::Route),
         'S' => ended(left, Line::Step),
         'H' => ended(left, Line::Halt),
-        'Q' => query_line(left),
+        'Q' => one_number(left).map(Line::Query),
         'T' => ended(left, Line::Tally),
         _ => None,
     }

@@ -1,83 +1,75 @@
-ghost use Rattle.std.specs.Prelude.{◌≡◌, ◌++◌, Some, string_bytes, decimal, OnOk};
-ghost use Rattle.std.specs.List.{flat_map};
-ghost use Rattle.jobtext.specs.LineTexts.{spaced};
-ghost use Rattle.jobtext.specs.Numbers.{number_in};
-ghost use Rattle.jobtext.specs.Texts.{field_text, ok_line, no_line, route_line};
+ghost use Rattle.std.specs.Prelude.{Some};
+ghost use Rattle.std.specs.Fmt.{DisplaysOnOk};
+ghost use Rattle.jobtext.specs.Texts.{field_text, ok_line, route_line};
+ghost use Rattle.jobtext.specs.Replies.{reply_text};
 
 use std::fmt;
 
-/// Adds a number in decimal, which is read back as that number.
-pub fn write_number(out: &mut String, number: u32) -> fmt::Result
-    ensures text { OnOk result (string_bytes out.new ≡ string_bytes out.old ++ decimal number) }
-    ensures back { number_in (decimal number) ≡ Some number }
-{
-    write!(out, "{number}")?;
-    Ok(())
-}
+/// A field after a blank: a number, or `-` for none.
+#[derive(Clone, Copy, PartialEq, Eq, Debug)]
+struct Field(Option<u32>);
 
-/// Adds a blank and a field: a number, or `-` for none.
-fn write_field(out: &mut String, field: Option<u32>) -> fmt::Result
-    ensures { OnOk result (string_bytes out.new ≡ string_bytes out.old ++ field_text field) }
-{
-    match field {
-        Some(number) => {
-            write!(out, " ")?;
-            write_number(out, number)
-        }
-        None => {
-            write!(out, " -")?;
-            Ok(())
+impl fmt::Display for Field {
+    ghost output = { λ f. Some (field_text f.0) };
+
+    fn fmt<W: fmt::Write>(&self, f: &mut fmt::Formatter<W>) -> fmt::Result {
+        match self.0 {
+            Some(number) => write!(f, " {number}"),
+            None => write!(f, " -"),
         }
     }
 }
 
-/// Adds each field after a blank.
-fn write_fields(out: &mut String, fields: &[Option<u32>]) -> fmt::Result
-    ensures { OnOk result (string_bytes out.new ≡ string_bytes out.old ++ flat_map field_text fields.now) }
+/// An answer line; above each, how it is written.
+#[derive(Clone, Copy, PartialEq, Eq, Debug)]
+pub enum Reply<'a> {
+    /// no NUMBER
+    No(u32),
+    /// ok FIELD ..
+    Fields(&'a [Option<u32>]),
+    /// ok TOLL COUNT PLACE ..
+    Route {
+        toll: u32,
+        count: u32,
+        way: &'a [u16],
+    },
+}
+
+impl fmt::Display for Reply<'_> {
+    ghost output = { λ r. Some (reply_text r) };
+
+    fn fmt<W: fmt::Write>(&self, f: &mut fmt::Formatter<W>) -> fmt::Result {
+        match self {
+            Reply::No(number) => writeln!(f, "no {number}"),
+            Reply::Fields(fields) => write_fields(f, fields),
+            Reply::Route { toll, count, way } => write_route(f, *toll, *count, way),
+        }
+    }
+}
+
+/// Writes an ok line of fields.
+fn write_fields<W: fmt::Write>(f: &mut fmt::Formatter<W>, fields: &[Option<u32>]) -> fmt::Result
+    ensures { DisplaysOnOk W.write_str_gives f.old result (Some (ok_line fields.now)) f.new }
 {
+    write!(f, "ok")?;
     for field in fields {
-        write_field(out, *field)?;
+        write!(f, "{}", Field(*field))?;
     }
-    Ok(())
+    writeln!(f)
 }
 
-/// Adds each place of a way after a blank.
-fn write_way(out: &mut String, way: &[u16]) -> fmt::Result
-    ensures { OnOk result (string_bytes out.new ≡ string_bytes out.old ++ flat_map spaced way.now) }
+/// Writes the ok line of a route: its toll, a count, and the places of its way.
+fn write_route<W: fmt::Write>(
+    f: &mut fmt::Formatter<W>,
+    toll: u32,
+    count: u32,
+    way: &[u16],
+) -> fmt::Result
+    ensures { DisplaysOnOk W.write_str_gives f.old result (Some (route_line toll count way.now)) f.new }
 {
+    write!(f, "ok {toll} {count}")?;
     for place in way {
-        write_field(out, Some(u32::from(*place)))?;
+        write!(f, " {place}")?;
     }
-    Ok(())
-}
-
-/// Adds a no line: "no" and a number.
-pub fn write_no(out: &mut String, number: u32) -> fmt::Result
-    ensures { OnOk result (string_bytes out.new ≡ string_bytes out.old ++ no_line number) }
-{
-    write!(out, "no ")?;
-    write_number(out, number)?;
-    write!(out, "\n")?;
-    Ok(())
-}
-
-/// Adds an ok line: "ok" and its fields.
-pub fn write_ok(out: &mut String, fields: &[Option<u32>]) -> fmt::Result
-    ensures { OnOk result (string_bytes out.new ≡ string_bytes out.old ++ ok_line fields.now) }
-{
-    write!(out, "ok")?;
-    write_fields(out, fields)?;
-    write!(out, "\n")?;
-    Ok(())
-}
-
-/// Adds the ok line of a route: its toll, a count, and the places of its way.
-pub fn write_route(out: &mut String, toll: u32, count: u32, way: &[u16]) -> fmt::Result
-    ensures { OnOk result (string_bytes out.new ≡ string_bytes out.old ++ route_line toll count way.now) }
-{
-    write!(out, "ok")?;
-    write_fields(out, &[Some(toll), Some(count)])?;
-    write_way(out, way)?;
-    write!(out, "\n")?;
-    Ok(())
+    writeln!(f)
 }

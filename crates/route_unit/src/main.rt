@@ -1,16 +1,12 @@
 #![tactic(auto)]
 
+use console::read_job;
 use job::run_job;
-use std::io::Read;
-
-/// A byte more than the longest job: enough to see that a job is too long.
-const ENOUGH: u64 = 65537;
 
 fn run(rt: &HostRuntime) -> anyhow::Result<()> {
-    let mut text = Vec::new(rt.alloc());
-    rt.stdin().take(ENOUGH).read_to_end(&mut text)?;
+    let text = read_job(rt.alloc(), rt.stdin())?;
     let mut out = String::new(rt.alloc());
-    run_job(text.as_slice(), &mut out)?;
+    run_job(&text, &mut out)?;
     rt.print(out.as_str())?;
     Ok(())
 }

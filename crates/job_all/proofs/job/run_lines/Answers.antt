@@ -1,28 +1,27 @@
-use Rattle.std.proofs.Common.{length, ap, ◌∙◌, subst, arith}
-use Rattle.std.proofs.lemmas.Result.{IfOk-weaker}
+use Rattle.std.proofs.Common.{length, ap, subst, rules}
 use Rattle.planner.specs.Calls.{state_of}
 use Rattle.planner.specs.Served.{parked_at}
 use Rattle.planner.specs.declared.carrier.Carrier.TheVariants.{Parked}
-use Rattle.job_all.specs.Jobs.{found_by, opened_text}
-use Rattle.job_all.proofs.Running.{still_empty, now_running, going_more, going_end}
+use Rattle.job_all.specs.Jobs.{found_by, opened_under}
+use Rattle.job_all.proofs.Running.{still_empty, now_running, one_more}
 use Rattle.job_all.proofs.job.run_lines.Goals as goal
 
-pub loop-left-preserved : goal.loop-left-preserved
-loop-left-preserved c =
-    let e = c.in_ok-opening.ensures in
-    let n = length c.loop-left.table in
-    let l = c.first_line.result.0.now in
-    going_more c.loop-left.invariant (c.first_line.ensures.step (omega arith)) (still_empty n l (subst (found_by n (opened_text n l)) c.in_default.is e.opening)) e.text
+pub loop-line-preserved : goal.loop-line-preserved
+loop-line-preserved g c =
+    let allowed = g.S.Service.allowed in
+    let e = c.in_ok-hall.ensures in
+    let n = length c.loop-line.table in
+    let l = c.in-Some.line.now in
+    one_more allowed _ _ _ _ l _ _ _ c.loop-line.invariant c.in-Some.ensures.steps (still_empty allowed n l (subst (found_by n (opened_under allowed n l)) c.in_default-2.is e.opening)) e.text
 
-pub returns-in-Some : goal.returns-in-Some
-returns-in-Some c =
-    let e = c.in_ok-opening.ensures in
-    let n = length c.loop-left.table in
-    let l = c.first_line.result.0.now in
-    let found = subst (found_by n (opened_text n l)) c.in-Some.is e.opening in
-    let stage = now_running n l c.in-Some.opening (state_of c.make-planner.result.0) (Parked c.make-planner.result.1) found c.make-planner.ensures.planner (ap parked_at c.make-planner.ensures.slip) in
-    let whole = (going_more c.loop-left.invariant {more = c.first_line.result.1.now} (c.first_line.ensures.step (omega arith)) stage e.text).rest in
-    IfOk-weaker c.serve_all.result _ _ (λ _ q. q ∙ whole) c.serve_all.ensures
-
-pub returns : goal.returns
-returns c = going_end c.loop-left.invariant (omega arith)
+pub returns-in-Some-2 : goal.returns-in-Some-2
+returns-in-Some-2 g c =
+    let allowed = g.S.Service.allowed in
+    let e = c.in_ok-hall.ensures in
+    let n = length c.loop-line.table in
+    let l = c.in-Some.line.now in
+    let p = c.in-Some-2.field-0 in
+    let found = subst (found_by n (opened_under allowed n l)) c.in-Some-2.is e.opening in
+    let stage = now_running allowed n l p (state_of c.make-planner.result.0) (Parked c.make-planner.result.1) found c.make-planner.ensures.planner (ap parked_at c.make-planner.ensures.slip) in
+    let whole = one_more allowed _ _ _ _ l _ _ _ c.loop-line.invariant c.in-Some.ensures.steps stage e.text in
+    search rules

@@ -1,12 +1,9 @@
-use Rattle.std.proofs.Common.{◌++◌, length, string_bytes}
-use Rattle.jobtext.specs.Lines.{lines}
-use Rattle.job_all.specs.Jobs.{empty, lines_text}
-use Rattle.job_all.proofs.Running.{Going}
+use Rattle.std.proofs.Common.{◌≡◌, ◌++◌, length, string_bytes}
+use Rattle.jobtext.specs.Left.{lines_left}
+use Rattle.job_all.specs.Jobs.{empty, lines_under}
 use Rattle.job_all.proofs.job.run_lines.Given as goal
 
-abbrev pub invariant-loop-left : goal.invariant-loop-left
-invariant-loop-left l =
-    Going (empty (length l.table)) (string_bytes l.out) l.left (string_bytes l.initial.out ++ lines_text (empty (length l.initial.table)) (lines l.initial.left))
-
-abbrev pub decreases-loop-left : goal.decreases-loop-left
-decreases-loop-left l = length l.left
+abbrev pub invariant-loop-line : goal.invariant-loop-line
+invariant-loop-line g l =
+    string_bytes l.out ++ lines_under g.S.Service.allowed (empty (length l.table)) (lines_left l.lines)
+    ≡ string_bytes l.initial.out ++ lines_under g.S.Service.allowed (empty (length l.initial.table)) (lines_left l.initial.lines)

@@ -1,20 +1,20 @@
-use Rattle.std.proofs.Common.{ℕ, ◌+◌, List, take, Some, ap, ◌∙◌, arith}
+use Rattle.std.proofs.Common.{◌≡◌, ◌+◌, ◌==◌, List, ℕ, Some, sym, ap, ◌∙◌, rules}
+use Rattle.std.proofs.lemmas.Iterator.{YieldsList-from_slice}
+use Rattle.std.proofs.lemmas.Iterator.Search.{position_from_yields_List}
 use Rattle.std.proofs.lemmas.List.{take_rest}
-use Rattle.jobtext.proofs.CutFacts.{passed_more, passed_here, passed_all}
+use Rattle.std.specs.List.{position}
+use borrow.Author.Tests.{tests}
+use Rattle.jobtext.proofs.CutFacts.{cut_found, cut_none}
 use Rattle.jobtext.proofs.cut.cut.Goals as goal
 
-pub returns-then-b-mark : goal.returns-then-b-mark
-returns-then-b-mark c =
-    let p = passed_here c.args.mark c.args.text.now c.loop-i.i c.loop-i.invariant (omega arith) (omega arith) in
-    record {
-      before = ap (λ (n : ℕ). take n c.args.text.now) (omega arith) ∙ p.0;
-      after = ap (λ (ys : List ℕ). Some ys) (take_rest c.args.text.now (c.loop-i.i + 1)) ∙ p.1;
-    }
+pub returns-in-Some : goal.returns-in-Some
+returns-in-Some c =
+    let found : c.position.result ≡ position (λ b. b == c.args.mark) c.args.text.now = position_from_yields_List (λ b. b == c.args.mark) _ _ c.position.result c.position.ensures.ran (YieldsList-from_slice c.args.text.now cc) (λ x b q k. search (rules, tests)) in
+    let p = cut_found c.args.mark c.args.text.now c.in-Some.i (sym c.in-Some.is ∙ found) in
+    record { before = p.0; after = ap (λ (ys : List ℕ). Some ys) (take_rest c.args.text.now (c.in-Some.i + 1)) ∙ p.1 }
 
-pub loop-i-preserved : goal.loop-i-preserved
-loop-i-preserved c = passed_more c.args.mark c.args.text.now c.loop-i.i c.loop-i.invariant (omega arith) (λ e. omega arith)
-
-pub returns : goal.returns
-returns c =
-    let p = passed_all c.args.mark c.args.text.now c.loop-i.i c.loop-i.invariant (omega arith) in
+pub returns-in-None : goal.returns-in-None
+returns-in-None c =
+    let found : c.position.result ≡ position (λ b. b == c.args.mark) c.args.text.now = position_from_yields_List (λ b. b == c.args.mark) _ _ c.position.result c.position.ensures.ran (YieldsList-from_slice c.args.text.now cc) (λ x b q k. search (rules, tests)) in
+    let p = cut_none c.args.mark c.args.text.now (sym c.in-None.is ∙ found) in
     record { before = p.0; after = p.1 }

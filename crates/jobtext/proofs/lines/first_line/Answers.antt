@@ -1,22 +1,11 @@
-use Rattle.std.proofs.Common.{◌≡◌, [], rules}
+use Rattle.std.proofs.Common.{◌≡◌, rules}
 use Rattle.jobtext.specs.Lines.{behind}
 use Rattle.jobtext.proofs.LineFacts.{lines_step, behind_lt, line_laws}
 use Rattle.jobtext.proofs.lines.first_line.Goals as goal
 
-pub returns-in-Some : goal.returns-in-Some
-returns-in-Some c =
-    let left_is : c.in-Some.more.now ≡ behind c.args.text.now = search rules in
-    record {
-      line = c.cut.ensures.before;
-      left = left_is;
-      step = lines_step _ _ _ c.cut.ensures.before left_is;
-      shorter = behind_lt _ _ left_is;
-      laws = line_laws;
-    }
-
-pub returns-in-None : goal.returns-in-None
-returns-in-None c =
-    let left_is : [] ≡ behind c.args.text.now = search rules in
+pub returns : goal.returns
+returns c =
+    let left_is : c.unwrap_or.result.now ≡ behind c.args.text.now = search rules in
     record {
       line = c.cut.ensures.before;
       left = left_is;
