@@ -1,7 +1,7 @@
 use toll::Refusal;
 
 /// What a route answers: its toll, how many places the search expanded, and how many places the way has.
-#[derive(Clone, Copy)]
+#[derive(Clone, Copy, PartialEq, Eq, Debug)]
 pub struct Route<T> {
     pub toll: T,
     pub count: u32,
@@ -9,14 +9,14 @@ pub struct Route<T> {
 }
 
 /// What is recorded of a place: its toll to the target, exactly if it is in the tree, and its next place.
-#[derive(Clone, Copy)]
+#[derive(Clone, Copy, PartialEq, Eq, Debug)]
 pub struct Reading<T> {
     pub toll: Option<T>,
     pub next: Option<u16>,
 }
 
 /// What a call answers.
-#[derive(Clone, Copy)]
+#[derive(Clone, Copy, PartialEq, Eq, Debug)]
 pub enum Answer<T> {
     /// It is refused.
     Refused(Refusal),

@@ -1,5 +1,5 @@
 /// A call of the planner with its numbers; what it is shown beside them are a slip, the floor and a buffer.
-#[derive(Clone, Copy)]
+#[derive(Clone, Copy, PartialEq, Eq, Debug)]
 pub enum Call<T> {
     /// Sets a spot's toll and repairs the tree.
     Change { spot: u32, toll: T },

@@ -1,5 +1,5 @@
 /// Why a call says no. Each case has the number that is printed for it.
-#[derive(Clone, Copy, PartialEq, Eq, Debug)]
+#[derive(Clone, Copy, PartialEq, Eq, PartialOrd, Ord, Debug)]
 pub enum Refusal {
     /// 1: a floor with no place, too many places or too many lanes.
     FloorSize,
