@@ -1,117 +1,137 @@
-use toll::Refusal;
+use planner::Answer;
+use std::alloc::{AllocError, Global};
+use std::collections::BTreeMap;
+use std::fmt;
+use toll::{Refusal, Toll};
+
+/// How often a check was made, and how often it failed.
+#[derive(Clone, Copy, Default)]
+pub struct Check {
+    made: usize,
+    failed: usize,
+}
 
 /// What a call is held against.
-#[derive(Clone, Copy)]
-pub enum Check {
+#[derive(Clone, Copy, Default)]
+pub struct Checks {
     /// The model of the rules: answer, slip, table, tally, floor and buffer.
-    Rules,
+    pub rules: Check,
     /// Plain relaxation: the toll of a route, its way, or that there is none.
-    Relaxation,
+    pub relaxation: Check,
     /// Which places a change drops.
-    Dropped,
+    pub dropped: Check,
     /// Which places a route expands.
-    Expanded,
+    pub expanded: Check,
     /// The refusals that cannot come while slips and floor are in order.
-    Order,
+    pub order: Check,
 }
 
-/// What went through the lists, and how often a check failed.
+/// What went through the lists.
+#[derive(Clone, Copy, Default)]
+pub struct Counts {
+    pub lists: usize,
+    pub calls: usize,
+    pub routes: usize,
+    pub dropped: usize,
+    pub expanded: usize,
+    pub exchanged: usize,
+    pub strays: usize,
+}
+
+/// What went through the lists, how often each refusal came, and how often a check failed.
 #[derive(Drop)]
 pub struct Ledger {
-    pub lists: u32,
-    pub calls: u32,
-    pub routes: u32,
-    pub dropped: u32,
-    pub expanded: u32,
-    pub exchanged: u32,
-    pub strays: u32,
-    pub checked: Checks,
-    pub differences: Checks,
-    refusals: [u32; 16],
+    pub counts: Counts,
+    pub checks: Checks,
+    refusals: BTreeMap<Refusal, usize>,
 }
 
-/// A number for each check.
-#[derive(Clone, Copy)]
-pub struct Checks {
-    pub rules: u32,
-    pub relaxation: u32,
-    pub dropped: u32,
-    pub expanded: u32,
-    pub order: u32,
-}
-
-pub fn count(number: &mut u32, more: u32) {
+pub fn count(number: &mut usize, more: usize) {
     *number = number.saturating_add(more);
 }
 
+impl Check {
+    /// Notes that the check was made, and whether it holds.
+    pub fn note(&mut self, holds: bool) {
+        count(&mut self.made, 1);
+        if !holds {
+            count(&mut self.failed, 1);
+        }
+    }
+}
+
 impl Checks {
-    fn none() -> Self {
-        Checks {
-            rules: 0,
-            relaxation: 0,
-            dropped: 0,
-            expanded: 0,
-            order: 0,
-        }
-    }
-
-    fn add(&mut self, check: Check) {
-        match check {
-            Check::Rules => count(&mut self.rules, 1),
-            Check::Relaxation => count(&mut self.relaxation, 1),
-            Check::Dropped => count(&mut self.dropped, 1),
-            Check::Expanded => count(&mut self.expanded, 1),
-            Check::Order => count(&mut self.order, 1),
-        }
-    }
-
-    pub fn sum(&self) -> u32 {
-        self.rules
-            .saturating_add(self.relaxation)
-            .saturating_add(self.dropped)
-            .saturating_add(self.expanded)
-            .saturating_add(self.order)
+    /// Writes a number of each check, and their sum.
+    fn write<W: fmt::Write, F: Fn(Check) -> usize>(
+        self,
+        f: &mut fmt::Formatter<W>,
+        number: F,
+    ) -> fmt::Result
+        requires { F.IsAlwaysCallable number }
+    {
+        let rules = number(self.rules);
+        let relaxation = number(self.relaxation);
+        let dropped = number(self.dropped);
+        let expanded = number(self.expanded);
+        let order = number(self.order);
+        let sum = [rules, relaxation, dropped, expanded, order]
+            .iter()
+            .fold(0usize, |sum, number| sum.saturating_add(*number));
+        write!(
+            f,
+            "{sum} (rules {rules}, relaxation {relaxation}, places dropped {dropped}, places expanded {expanded}, order {order})"
+        )
     }
 }
 
 impl Ledger {
-    pub fn empty() -> Self {
+    pub fn new(alloc: Global) -> Self {
         Ledger {
-            lists: 0,
-            calls: 0,
-            routes: 0,
-            dropped: 0,
-            expanded: 0,
-            exchanged: 0,
-            strays: 0,
-            checked: Checks::none(),
-            differences: Checks::none(),
-            refusals: [0; 16],
+            counts: Counts::default(),
+            checks: Checks::default(),
+            refusals: BTreeMap::new(alloc),
         }
     }
 
-    /// Notes that a check was made, and whether it holds.
-    pub fn note(&mut self, check: Check, holds: bool) {
-        self.checked.add(check);
-        if !holds {
-            self.differences.add(check);
-        }
+    /// Notes a refusal.
+    pub fn refuse(&mut self, why: Refusal) -> Result<(), AllocError> {
+        count(self.refusals.entry(why)?.or_insert(0), 1);
+        Ok(())
     }
 
-    pub fn refuse(&mut self, why: Refusal) {
-        let number = why.number();
-        if number < 16 {
-            let times = self.refusals[number as usize];
-            self.refusals[number as usize] = times.saturating_add(1);
+    /// Notes what was answered.
+    pub fn answer<T: Toll>(&mut self, answer: Answer<T>) -> Result<(), AllocError> {
+        count(&mut self.counts.calls, 1);
+        match answer {
+            Answer::Refused(why) => self.refuse(why)?,
+            Answer::Route(_) => count(&mut self.counts.routes, 1),
+            _ => {}
         }
+        Ok(())
     }
+}
 
-    /// How often a refusal came.
-    pub fn refused(&self, number: u8) -> u32 {
-        if number < 16 {
-            self.refusals[number as usize]
-        } else {
-            0
+impl fmt::Display for Ledger {
+    fn fmt<W: fmt::Write>(&self, f: &mut fmt::Formatter<W>) -> fmt::Result {
+        let counts = self.counts;
+        writeln!(f, "{} lists, {} calls", counts.lists, counts.calls)?;
+        writeln!(
+            f,
+            "  floors exchanged: {}; slips exchanged: {}",
+            counts.exchanged, counts.strays
+        )?;
+        write!(f, "  refusals:")?;
+        for (why, times) in &self.refusals {
+            write!(f, " {}: {times};", why.number())?;
         }
+        writeln!(
+            f,
+            "\n  routes answered: {}; places dropped: {}, expanded: {}",
+            counts.routes, counts.dropped, counts.expanded
+        )?;
+        write!(f, "  checks: ")?;
+        self.checks.write(f, |check| check.made)?;
+        write!(f, "\n  differences: ")?;
+        self.checks.write(f, |check| check.failed)
     }
 }

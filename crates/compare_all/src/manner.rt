@@ -1,19 +1,12 @@
 use floor::Floor;
-use planner::{Answer, Call, Carrier, Parked, Planner, Reading, UnderWay};
-use toll::{Refusal, Toll};
+use planner::{Answer, Call, Carrier, Parked, Planner, UnderWay};
+use toll::Toll;
 
 /// How a call is made: through the one call for all, or by its own name.
 #[derive(Clone, Copy)]
 pub enum Manner {
     Served,
     Direct,
-}
-
-fn reading_or_not<T: Toll>(done: Result<Reading<T>, Refusal>) -> Answer<T> {
-    match done {
-        Ok(reading) => Answer::Reading(reading),
-        Err(why) => Answer::Refused(why),
-    }
 }
 
 fn change<'t, T: Toll, F: Floor<Toll = T>>(
@@ -23,6 +16,7 @@ fn change<'t, T: Toll, F: Floor<Toll = T>>(
     spot: u32,
     toll: T,
 ) -> (Carrier, Answer<T>) {
+    // A match, since the borrow check does not cover `map_or_else` with a variant's name.
     let answer = match planner.change(floor, &slip, spot, toll) {
         Ok(()) => Answer::Done,
         Err(why) => Answer::Refused(why),
@@ -33,10 +27,7 @@ fn change<'t, T: Toll, F: Floor<Toll = T>>(
 fn put<'t, T: Toll>(planner: &Planner<'t, T>, slip: Parked, place: u32) -> (Carrier, Answer<T>) {
     match planner.put(slip, place) {
         Ok(slip) => (Carrier::Parked(slip), Answer::Done),
-        Err(back) => {
-            let (slip, why) = back;
-            (Carrier::Parked(slip), Answer::Refused(why))
-        }
+        Err((slip, why)) => (Carrier::Parked(slip), Answer::Refused(why)),
     }
 }
 
@@ -47,14 +38,8 @@ fn route<'t, T: Toll, F: Floor<Toll = T>>(
     way: &mut [u16],
 ) -> (Carrier, Answer<T>) {
     match planner.route(floor, slip, way) {
-        Ok(done) => {
-            let (slip, route) = done;
-            (Carrier::UnderWay(slip), Answer::Route(route))
-        }
-        Err(back) => {
-            let (slip, why) = back;
-            (Carrier::Parked(slip), Answer::Refused(why))
-        }
+        Ok((slip, route)) => (Carrier::UnderWay(slip), Answer::Route(route)),
+        Err((slip, why)) => (Carrier::Parked(slip), Answer::Refused(why)),
     }
 }
 
@@ -68,10 +53,7 @@ fn step<'t, T: Toll, F: Floor<Toll = T>>(
             let place = slip.place();
             (Carrier::UnderWay(slip), Answer::Place(place))
         }
-        Err(back) => {
-            let (slip, why) = back;
-            (Carrier::UnderWay(slip), Answer::Refused(why))
-        }
+        Err((slip, why)) => (Carrier::UnderWay(slip), Answer::Refused(why)),
     }
 }
 
@@ -81,38 +63,26 @@ fn halt<'t, T: Toll>(planner: &Planner<'t, T>, slip: UnderWay) -> (Carrier, Answ
     (Carrier::Parked(slip), Answer::Place(place))
 }
 
-/// A call by its own name with a parked slip; what such a slip cannot be shown to is served.
-fn directly_parked<'t, T: Toll, F: Floor<Toll = T>>(
+/// A call by its own name; what the slip cannot be shown to is served.
+fn call_directly<'t, T: Toll, F: Floor<Toll = T>>(
     planner: &mut Planner<'t, T>,
     floor: &mut F,
-    slip: Parked,
+    carrier: Carrier,
     call: Call<T>,
     way: &mut [u16],
 ) -> (Carrier, Answer<T>) {
-    match call {
-        Call::Change { spot, toll } => change(planner, floor, slip, spot, toll),
-        Call::Put(place) => put(planner, slip, place),
-        Call::Route => route(planner, floor, slip, way),
-        Call::Read(place) => (Carrier::Parked(slip), reading_or_not(planner.read(place))),
-        Call::Tally => (Carrier::Parked(slip), Answer::Tally(planner.tally())),
-        _ => planner.serve(floor, Carrier::Parked(slip), call, way),
-    }
-}
-
-/// The same with a slip that is under way.
-fn directly_under_way<'t, T: Toll, F: Floor<Toll = T>>(
-    planner: &mut Planner<'t, T>,
-    floor: &mut F,
-    slip: UnderWay,
-    call: Call<T>,
-    way: &mut [u16],
-) -> (Carrier, Answer<T>) {
-    match call {
-        Call::Step => step(planner, floor, slip),
-        Call::Halt => halt(planner, slip),
-        Call::Read(place) => (Carrier::UnderWay(slip), reading_or_not(planner.read(place))),
-        Call::Tally => (Carrier::UnderWay(slip), Answer::Tally(planner.tally())),
-        _ => planner.serve(floor, Carrier::UnderWay(slip), call, way),
+    match carrier {
+        Carrier::Parked(slip) => match call {
+            Call::Change { spot, toll } => change(planner, floor, slip, spot, toll),
+            Call::Put(place) => put(planner, slip, place),
+            Call::Route => route(planner, floor, slip, way),
+            _ => planner.serve(floor, Carrier::Parked(slip), call, way),
+        },
+        Carrier::UnderWay(slip) => match call {
+            Call::Step => step(planner, floor, slip),
+            Call::Halt => halt(planner, slip),
+            _ => planner.serve(floor, Carrier::UnderWay(slip), call, way),
+        },
     }
 }
 
@@ -125,11 +95,14 @@ pub fn make_call<'t, T: Toll, F: Floor<Toll = T>>(
     manner: Manner,
     way: &mut [u16],
 ) -> (Carrier, Answer<T>) {
-    match (manner, carrier) {
-        (Manner::Served, carrier) => planner.serve(floor, carrier, call, way),
-        (Manner::Direct, Carrier::Parked(slip)) => directly_parked(planner, floor, slip, call, way),
-        (Manner::Direct, Carrier::UnderWay(slip)) => {
-            directly_under_way(planner, floor, slip, call, way)
-        }
+    match (manner, call) {
+        (Manner::Served, _) => planner.serve(floor, carrier, call, way),
+        // A match for the same reason as in `change`.
+        (Manner::Direct, Call::Read(place)) => match planner.read(place) {
+            Ok(reading) => (carrier, Answer::Reading(reading)),
+            Err(why) => (carrier, Answer::Refused(why)),
+        },
+        (Manner::Direct, Call::Tally) => (carrier, Answer::Tally(planner.tally())),
+        (Manner::Direct, _) => call_directly(planner, floor, carrier, call, way),
     }
 }
