@@ -1,7 +1,6 @@
-use floor::Floor;
+use floor::{Floor, Lanes};
 use std::alloc::{AllocError, Global};
 use toll::Toll;
-use trial::counted;
 
 /// A lane between two places, and the spot that it pays at.
 #[derive(Clone, Copy, PartialEq, Eq)]
@@ -38,7 +37,7 @@ impl<T: Toll> Picture<T> {
             if let (Some(toll), Some(least)) = (floor.spot_toll(spot), floor.least_toll(spot)) {
                 picture.spots.push(Spot { toll, least })?;
             }
-            for lane in counted(alloc, |k| floor.lane_of_spot(spot, k))? {
+            for lane in Lanes::of_spot(floor, spot) {
                 if let Some((from, to)) = floor.lane_ends(lane) {
                     picture.lanes.push(Lane { from, to, spot })?;
                 }

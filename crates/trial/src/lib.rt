@@ -2,7 +2,6 @@
 //! relaxation, which shares no code with the planner, and the score of single routes.
 #![tactic(auto)]
 
-mod counting;
 mod draw;
 mod halls;
 mod plans;
@@ -10,7 +9,6 @@ mod random;
 mod relaxation;
 mod score;
 
-pub use counting::counted;
 pub use draw::Draw;
 pub use halls::some_hall;
 pub use plans::some_records;

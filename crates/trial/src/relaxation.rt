@@ -2,8 +2,7 @@ ghost use Rattle.std.specs.Prelude.{◌≡◌, ◌-◌, Some, IsTrue, IfOk, vec_
 ghost use Rattle.std.specs.List.{slice_get};
 ghost use Rattle.floor.specs.Meaning.{then};
 
-use crate::counting::counted;
-use floor::Floor;
+use floor::{Floor, Lanes};
 use lanes::LaneRecord;
 use planner::Route;
 use std::alloc::{AllocError, Global};
@@ -25,7 +24,7 @@ fn lanes_of<T: Toll, F: Floor<Toll = T>>(
 ) -> Result<Vec<LaneRecord<T>>, AllocError> {
     let mut lanes = Vec::new(alloc);
     for place in 0..floor.places() {
-        for lane in counted(alloc, |k| floor.lane_out(place, k))? {
+        for lane in Lanes::out_of(floor, place) {
             if let (Some((leaves, enters)), Some(toll)) = (
                 floor.lane_ends(lane),
                 floor.lane_toll(lane),
