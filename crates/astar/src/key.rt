@@ -23,6 +23,7 @@ impl<T: Toll> Key<T> {
         }
     }
 
+    // By hand, since a kind of toll has no `Ord` to derive from.
     /// Whether this key comes before the other or has the same tolls.
     pub fn at_most(self, other: Self) -> bool
         ensures { result ≡ key_le T.Toll.tolls self other }

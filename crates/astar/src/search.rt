@@ -84,6 +84,7 @@ pub fn search<T: Toll, F: Floor<Toll = T>>(
     ensures table { tree_of table.new ≡ (seek T.Toll.tolls (F.Floor.meaning floor.now) from (length table.old) (tree_of table.old)).tree }
 {
     floor.laws_hold();
+    // Counted by hand, and told beside the outcome: a search has no list to go through, and its count holds however it ends.
     let mut count = 0;
     let outcome = loop {
         let chosen = choose(table, floor, from);

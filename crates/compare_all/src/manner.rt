@@ -2,8 +2,8 @@ use floor::Floor;
 use planner::{Answer, Call, Carrier, Parked, Planner, UnderWay};
 use toll::Toll;
 
-/// How a call is made: through the one call for all, or by its own name.
-#[derive(Clone, Copy)]
+/// How a call is made: through the one call for all, or by its own name. It is drawn with the call and kept, so it is no closure.
+#[derive(Clone, Copy, PartialEq, Eq, Debug)]
 pub enum Manner {
     Served,
     Direct,

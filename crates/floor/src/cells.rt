@@ -1,5 +1,7 @@
 ghost use Rattle.std.specs.Prelude.{◌≡◌, ◌<◌, replicate, slice_index, slice_set};
 
+// An array, since the unit uses fixed memory.
+
 /// A plain table of tolls in seconds, one for each cell that a hall can have.
 #[derive(Drop)]
 pub(crate) struct Cells {

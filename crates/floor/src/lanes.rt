@@ -19,7 +19,7 @@ enum Which {
 pub struct Lanes<'f, F> {
     floor: &'f F,
     which: Which,
-    /// How many are behind it: a floor is asked for the k-th lane.
+    /// How many are behind it, counted by hand: a floor is asked for its k-th lane.
     k: u16,
 }
 

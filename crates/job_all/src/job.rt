@@ -66,6 +66,7 @@ pub fn run_job_by<S: Service>(text: &[u8], out: &mut String) -> fmt::Result
     if text.len() > LONGEST {
         return refuse(out, Refusal::BadLine);
     }
+    // Arrays here and in `serve_line_by`, since the unit uses fixed memory.
     let mut table = [Record::<Seconds>::blank(); 1024];
     run_lines::<S>(&mut table, text, out)
 }

@@ -9,6 +9,8 @@ use floor::Floor;
 use planner::{Answer, Call, Carrier, Parked, Planner, UnderWay};
 use toll::Toll;
 
+// A function for each part, though their bodies are alike, so that an edit shows which part it breaks.
+
 /// A route with a full-length buffer is answered exactly if some way is passable, and by a cheapest one.
 pub fn route_answers<T: Toll, F: Floor<Toll = T>>(
     planner: &mut Planner<'_, T>,

@@ -1,6 +1,7 @@
 use toll::Refusal;
 
-/// What a route answers: its toll, how many places the search expanded, and how many places the way has.
+/// What a route answers: its toll, how many places the search expanded, and how many places the way has. The way itself is in
+/// the caller's buffer, which an answer does not borrow.
 #[derive(Clone, Copy, PartialEq, Eq, Debug)]
 pub struct Route<T> {
     pub toll: T,

@@ -1,5 +1,7 @@
 ghost use Rattle.std.specs.Prelude.{◌≡◌};
 
+// Two types and not one with a state, as a rule of the project: each call names the slip that it takes.
+
 /// The carrier is parked at a place. The number is kept as it was handed in, whether or not there is such a place.
 #[derive(Drop)]
 pub struct Parked {

@@ -6,7 +6,7 @@ pub trait Toll: Copy {
     /// The order, the joining, zero and shut.
     ghost tolls: { Tolls Self };
 
-    /// Whether this toll is at most the other.
+    /// Whether this toll is at most the other. A kind needs no `Ord` beside it.
     fn at_most(self, other: Self) -> bool
         ensures { result ≡ tolls.le self other };
 

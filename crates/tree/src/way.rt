@@ -55,6 +55,7 @@ fn walk<T: Toll, F: Floor<Toll = T>>(
 {
     let mut place = from;
     let mut toll = T::zero();
+    // Counted by hand: the way may end after any lane, and the count is the trace's.
     let mut lanes = 0;
     while place != target {
         if lanes as usize + 1 >= table.len() {
