@@ -6,7 +6,7 @@ ghost use Rattle.floor.specs.LanesLeft.{asked, lanes_left};
 
 use crate::floor::Floor;
 
-/// Which lanes are gone through.
+/// Which lanes are gone through. An enum and no closure, since the iterator's ghost members tell from it which lanes are left.
 #[derive(Clone, Copy, PartialEq, Eq, Debug)]
 enum Which {
     OutOf(u16),
