@@ -24,14 +24,6 @@ module _ (allowed : ℕ → Standing → Bool) where
       ∙ ap (λ (x : Stage). out ++ ((stepped_under allowed s l).text ++ lines_under allowed x more)) f
       ∙ ap (λ x. out ++ lines_under allowed s x) (sym e) ∙ k
 
-  -- all lines were answered
-  pub no_more : (s : Stage) (out : List ℕ) (left : List (List ℕ)) (whole : List ℕ) → out ++ lines_under allowed s left ≡ whole → left ≡ [] → out ≡ whole
-  no_more s out left whole k e = sym (append-nil out) ∙ ap (λ x. out ++ lines_under allowed s x) (sym e) ∙ k
-
--- the stage after a line that was served
-pub served_stage_lem : (allowed : ℕ → Standing → Bool) (W : World Seconds) (c : Carrier) (l : List ℕ) {W' : World Seconds} {c' : Carrier} → W' ≡ (served_under allowed W c l).world → c' ≡ (served_under allowed W c l).slip → running W' c' ≡ (stepped_under allowed (running W c) l).stage
-served_stage_lem allowed W c l e f i = running (e i) (f i)
-
 -- the stage after a line while there is no floor
 module _ (allowed : ℕ → Standing → Bool) (n : ℕ) (l : List ℕ) where
   pub still_empty : found_by n (opened_under allowed n l) None → empty n ≡ (stepped_under allowed (empty n) l).stage

@@ -1,8 +1,7 @@
 ghost use Rattle.std.specs.Prelude.{◌≡◌, ◌++◌, length, string_bytes, OnOk};
 ghost use Rattle.floor.specs.Grid.{hall_meaning};
 ghost use Rattle.planner.specs.Served.{world_of};
-ghost use Rattle.jobtext.specs.Left.{lines_left};
-ghost use Rattle.jobtext.specs.Lines.{lines};
+ghost use Rattle.jobtext.specs.Lines.{lines, lines_left};
 ghost use Rattle.job_all.specs.Jobs.{empty, running, lines_under, job_under};
 
 use super::decide::Service;

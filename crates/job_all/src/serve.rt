@@ -1,7 +1,7 @@
 ghost use Rattle.std.specs.Prelude.{◌≡◌, [], ◌++◌, IfOk, string_bytes, OnOk};
 ghost use Rattle.floor.specs.Grid.{hall_meaning};
 ghost use Rattle.planner.specs.Served.{world_of};
-ghost use Rattle.jobtext.specs.Replies.{reply_text};
+ghost use Rattle.jobtext.specs.Texts.{reply_text};
 ghost use Rattle.job_all.specs.Jobs.{refusal_line, answer_line, call_of, served_under};
 ghost use Rattle.job_all.specs.Fitting.{WayFits};
 

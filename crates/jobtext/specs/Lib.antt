@@ -4,6 +4,4 @@ pub mod Numbers
 pub mod LineTexts
 pub mod Parsing
 pub mod Lines
-pub mod Left
 pub mod Texts
-pub mod Replies

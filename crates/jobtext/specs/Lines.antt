@@ -1,12 +1,14 @@
 -- The lines of a text, each of which ends at a newline; the last may lack it.
 --     behind bs         what is behind the first line
 --     lines bs          the lines, without their newlines
+--     lines_left s      the lines that an iterator has left
 --     closed ls         the text of the lines ls, each with its newline
 --     LineLaws          the lines of a text that is put together from lines are those lines
 use Rattle.std.specs.Prelude.{◌≡◌, ℕ, ◌<◌, cond, List, [], ◌∷◌, ◌++◌, length, ◌==◌, ◌≢◌}
 use Rattle.std.specs.Option.{unwrap_or}
 use Rattle.std.specs.List.{AllByRecursion}
 use Rattle.jobtext.specs.Bytes.{rest}
+use Rattle.jobtext.specs.declared.lines.Lines.{Lines}
 
 -- What is behind the first newline; nothing if there is none.
 abbrev pub behind : List ℕ → List ℕ
@@ -21,6 +23,10 @@ onto b (l ∷ ls) = (b ∷ l) ∷ ls
 abbrev pub lines : List ℕ → List (List ℕ)
 lines [] = []
 lines (b ∷ bs) = cond (b == 10) ([] ∷ lines bs) (onto b (lines bs))
+
+-- The lines that an iterator has left.
+abbrev pub lines_left : Lines → List (List ℕ)
+lines_left s = lines s.left.now
 
 -- A line has no newline in it.
 abbrev pub Whole : List ℕ → Type 0

@@ -1,7 +1,6 @@
 ghost use Rattle.std.specs.Prelude.{◌≡◌, ◌<◌, ◌∷◌, length};
 ghost use Rattle.jobtext.specs.Bytes.{front};
-ghost use Rattle.jobtext.specs.Lines.{behind, lines, LineLaws};
-ghost use Rattle.jobtext.specs.Left.{lines_left};
+ghost use Rattle.jobtext.specs.Lines.{behind, lines, lines_left, LineLaws};
 
 use super::cut::cut;
 

@@ -1,7 +1,6 @@
 ghost use Rattle.std.specs.Prelude.{Some};
 ghost use Rattle.std.specs.Fmt.{DisplaysOnOk};
-ghost use Rattle.jobtext.specs.Texts.{field_text, ok_line, route_line};
-ghost use Rattle.jobtext.specs.Replies.{reply_text};
+ghost use Rattle.jobtext.specs.Texts.{field_text, ok_line, route_line, reply_text};
 
 use std::fmt;
 

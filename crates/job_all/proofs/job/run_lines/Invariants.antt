@@ -1,5 +1,5 @@
 use Rattle.std.proofs.Common.{◌≡◌, ◌++◌, length, string_bytes}
-use Rattle.jobtext.specs.Left.{lines_left}
+use Rattle.jobtext.specs.Lines.{lines_left}
 use Rattle.job_all.specs.Jobs.{empty, lines_under}
 use Rattle.job_all.proofs.job.run_lines.Given as goal
 

@@ -1,7 +1,7 @@
 use Rattle.std.proofs.Common.{◌≡◌, ◌++◌, string_bytes}
 use Rattle.floor.specs.Grid.{hall_meaning}
 use Rattle.planner.specs.Served.{world_of}
-use Rattle.jobtext.specs.Left.{lines_left}
+use Rattle.jobtext.specs.Lines.{lines_left}
 use Rattle.job_all.specs.Jobs.{running, lines_under}
 use Rattle.job_all.proofs.job.serve_all.Given as goal
 
