@@ -22,7 +22,7 @@ text = {os.path.relpath(f, root): open(f, encoding="utf-8").read() for f in file
 LINES = {
     "1 enums without derives, numbers for kinds or refusals, a flag beside a value": [
         r"^\s*(pub(\(crate\))? )?enum (?!.*derived)",
-        r"-> (Option<)?u8>? ",
+        r"-> (Option<)?u8>?(\s|$)",
         r"\bdirection: u16",
         r"-> \((bool|Outcome), ",
     ],
@@ -40,7 +40,7 @@ LINES = {
         r"\blength: u16",
     ],
     "7 a switch on which step to run": [
-        r"\bEnd::(Leaves|Enters)\b",
+        r"\b(End|Which)::\w+",
         r"\bManner::\w+",
         r"macro_rules!",
     ],

@@ -23,11 +23,11 @@ impl<T: Toll> Key<T> {
         }
     }
 
-    // By hand, since a kind of toll has no `Ord` to derive from.
     /// Whether this key comes before the other or has the same tolls.
     pub fn at_most(self, other: Self) -> bool
         ensures { result ≡ key_le T.Toll.tolls self other }
     {
+        // By hand, since a kind of toll has no `Ord` to derive from.
         self.far.at_most(other.far)
             && (self.far.is_below(other.far) || self.near.at_most(other.near))
     }

@@ -51,6 +51,7 @@ fn choose<T: Toll, F: Floor<Toll = T>>(
 {
     let places = table.len() as u16;
     let mut best = None;
+    // By place number, since a place is what is chosen.
     for place in 0..places {
         best = better(
             best,

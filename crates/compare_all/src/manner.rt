@@ -16,11 +16,7 @@ fn change<'t, T: Toll, F: Floor<Toll = T>>(
     spot: u32,
     toll: T,
 ) -> (Carrier, Answer<T>) {
-    // A match, since the borrow check does not cover `map_or_else` with a variant's name.
-    let answer = match planner.change(floor, &slip, spot, toll) {
-        Ok(()) => Answer::Done,
-        Err(why) => Answer::Refused(why),
-    };
+    let answer = Answer::from(planner.change(floor, &slip, spot, toll));
     (Carrier::Parked(slip), answer)
 }
 
@@ -97,11 +93,7 @@ pub fn make_call<'t, T: Toll, F: Floor<Toll = T>>(
 ) -> (Carrier, Answer<T>) {
     match (manner, call) {
         (Manner::Served, _) => planner.serve(floor, carrier, call, way),
-        // A match for the same reason as in `change`.
-        (Manner::Direct, Call::Read(place)) => match planner.read(place) {
-            Ok(reading) => (carrier, Answer::Reading(reading)),
-            Err(why) => (carrier, Answer::Refused(why)),
-        },
+        (Manner::Direct, Call::Read(place)) => (carrier, Answer::from(planner.read(place))),
         (Manner::Direct, Call::Tally) => (carrier, Answer::Tally(planner.tally())),
         (Manner::Direct, _) => call_directly(planner, floor, carrier, call, way),
     }

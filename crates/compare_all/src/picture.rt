@@ -1,6 +1,7 @@
-use floor::{Floor, Lanes};
+use floor::Floor;
 use std::alloc::{AllocError, Global};
 use toll::Toll;
+use trial::counted;
 
 /// A lane between two places, and the spot that it pays at.
 #[derive(Clone, Copy, PartialEq, Eq)]
@@ -33,11 +34,12 @@ impl<T: Toll> Picture<T> {
             lanes: Vec::new(alloc),
             spots: Vec::new(alloc),
         };
+        // By number, since a floor has its spots by number.
         for spot in 0..floor.spots() {
             if let (Some(toll), Some(least)) = (floor.spot_toll(spot), floor.least_toll(spot)) {
                 picture.spots.push(Spot { toll, least })?;
             }
-            for lane in Lanes::of_spot(floor, spot) {
+            for lane in counted(alloc, |k| floor.lane_of_spot(spot, k))? {
                 if let Some((from, to)) = floor.lane_ends(lane) {
                     picture.lanes.push(Lane { from, to, spot })?;
                 }

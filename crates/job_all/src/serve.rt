@@ -15,9 +15,10 @@ use std::fmt;
 use toll::{Refusal, Seconds};
 
 /// Adds an answer line.
-pub fn write_reply(out: &mut String, reply: Reply<'_>) -> fmt::Result
+pub(super) fn write_reply(out: &mut String, reply: Reply<'_>) -> fmt::Result
     ensures { OnOk result (string_bytes out.new ≡ string_bytes out.old ++ reply_text reply.entry) }
 {
+    // The error of `write!` to a text is another than `fmt::Error`, so `?` turns it.
     write!(out, "{reply}")?;
     Ok(())
 }
@@ -33,6 +34,7 @@ pub fn refuse(out: &mut String, why: Refusal) -> fmt::Result
 fn call_of(line: Line) -> Option<Call<Seconds>>
     ensures { result ≡ call_of line }
 {
+    // A function and no `TryFrom`, since both types are of other crates.
     match line {
         Line::Floor { .. } => None,
         Line::Change { spot, toll } => Some(Call::Change {
@@ -96,7 +98,7 @@ pub fn serve_line_by<S: Service>(
             refuse(out, why)?;
             Ok(carrier)
         }
-        // One match in the other: a pattern that reaches into a toll, which has a ghost field, is not covered.
+        // One match in the other: with `and_then` before a single one, what a refusal leaves stays open.
         Ok(line) => match call_of(line) {
             None => {
                 refuse(out, Refusal::NotNow)?;

@@ -32,11 +32,11 @@ pub enum Line {
 }
 
 impl Line {
-    // A `char`: lines are decided by letter and standing together, as a rule of the project.
     /// The letter that the line begins with.
     pub fn letter(&self) -> char
         ensures { result ≡ letter self.now }
     {
+        // A `char`: lines are decided by letter and standing together, as a rule of the project.
         match self {
             Line::Floor { .. } => 'F',
             Line::Change { .. } => 'C',

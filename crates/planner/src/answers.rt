@@ -33,4 +33,5 @@ pub enum Answer<T> {
     Tally(u32),
 }
 
+mod made;
 pub mod said;

@@ -6,6 +6,7 @@ use tree::Record;
 /// A planner of no place is what a refused set-up leaves: every call refuses.
 #[derive(Drop)]
 pub struct Planner<'t, T> {
+    // Lent whole and kept whole, with the number of places beside it: what lies behind the last place is shown untouched.
     table: &'t mut [Record<T>],
     places: u16,
     target: u16,

@@ -84,7 +84,7 @@ fn drops<T: Toll, F: Floor<Toll = T>>(
     toll_at(table, place).is_some() && uses_spot(table, floor, target, spot, place)
 }
 
-// The three loops over the table go by place number: each turn asks the whole table beside the record that it writes.
+// The three loops over the table go by place number, as the definitions do; a turn may ask the whole table beside the record that it writes.
 
 /// Marks the places that are dropped when the spot becomes dearer.
 fn mark<T: Toll, F: Floor<Toll = T>>(table: &mut [Record<T>], floor: &F, target: u16, spot: u16)

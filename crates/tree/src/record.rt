@@ -1,7 +1,7 @@
 ghost use Rattle.std.specs.Prelude.{◌≡◌};
 ghost use Rattle.tree.specs.Tree.{entry_of, blank_entry};
 
-/// What the planner keeps of one place: the toll to the target, the next place, whether it is open. Four fields and no enum, since each is altered alone.
+/// What the planner keeps of one place: the toll to the target, the next place, whether it is open. Four fields and no enum, as the definitions of a tree have them.
 #[derive(Clone, Copy, PartialEq, Eq, Debug)]
 pub struct Record<T> {
     pub(crate) toll: Option<T>,

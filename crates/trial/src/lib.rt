@@ -1,7 +1,8 @@
 //! What the programs that hold the planner to its peers share: the random numbers, the floors and tolls that are drawn, plain
-//! relaxation, which shares no code with the planner, and the score of single routes.
+//! relaxation, which shares no code with the planner and asks a floor itself, and the score of single routes.
 #![tactic(auto)]
 
+mod counting;
 mod draw;
 mod halls;
 mod plans;
@@ -9,6 +10,7 @@ mod random;
 mod relaxation;
 mod score;
 
+pub use counting::counted;
 pub use draw::Draw;
 pub use halls::some_hall;
 pub use plans::some_records;

@@ -21,6 +21,7 @@ pub struct Random {
 }
 
 impl Random {
+    /// The generator of a seed.
     pub fn seeded(seed: u32, odds: Odds) -> Self
         ensures { result.odds ≡ odds }
     {
@@ -31,7 +32,9 @@ impl Random {
     }
 
     /// The next number. Any may come.
-    pub fn next(&mut self) -> u32 {
+    pub fn next(&mut self) -> u32
+        ensures { self.new.odds ≡ self.old.odds }
+    {
         let mut x = self.state;
         x ^= x.wrapping_shl(13);
         x ^= x.wrapping_shr(17);
@@ -44,14 +47,16 @@ impl Random {
     pub fn below(&mut self, bound: u32) -> u32
         ensures below { 0 < bound → result < bound }
         ensures none { bound ≡ 0 → result ≡ 0 }
+        ensures odds { self.new.odds ≡ self.old.odds }
     {
         self.next().checked_rem(bound).unwrap_or(0)
     }
 
-    /// The same for short numbers.
+    /// The same for short numbers. It is no cast of `below`, since the stored outputs hold these draws.
     pub fn short(&mut self, bound: u16) -> u16
         ensures below { 0 < bound → result < bound }
         ensures none { bound ≡ 0 → result ≡ 0 }
+        ensures odds { self.new.odds ≡ self.old.odds }
     {
         let x = (self.next() % 65536) as u16;
         x.checked_rem(bound).unwrap_or(0)

@@ -2,7 +2,8 @@ ghost use Rattle.std.specs.Prelude.{◌≡◌, ◌-◌, Some, IsTrue, IfOk, vec_
 ghost use Rattle.std.specs.List.{slice_get};
 ghost use Rattle.floor.specs.Meaning.{then};
 
-use floor::{Floor, Lanes};
+use crate::counting::counted;
+use floor::Floor;
 use lanes::LaneRecord;
 use planner::Route;
 use std::alloc::{AllocError, Global};
@@ -23,8 +24,9 @@ fn lanes_of<T: Toll, F: Floor<Toll = T>>(
     floor: &F,
 ) -> Result<Vec<LaneRecord<T>>, AllocError> {
     let mut lanes = Vec::new(alloc);
+    // By number, since a floor has its places by number.
     for place in 0..floor.places() {
-        for lane in Lanes::out_of(floor, place) {
+        for lane in counted(alloc, |k| floor.lane_out(place, k))? {
             if let (Some((leaves, enters)), Some(toll)) = (
                 floor.lane_ends(lane),
                 floor.lane_toll(lane),

@@ -15,6 +15,8 @@ pub(super) fn pick(found: &[Option<u16>], k: u16) -> Option<u16>
     found.iter().filter_map(|lane| *lane).nth(usize::from(k))
 }
 
+// The three steps below ask that the cell is in the hall: the question that takes them has looked it over.
+
 impl Hall {
     /// The number of cells.
     pub(super) fn size(&self) -> u16
@@ -32,11 +34,7 @@ impl Hall {
             Direction::Up => cell.checked_sub(self.columns),
             Direction::Right => (cell % self.columns + 1 < self.columns).then_some(cell + 1),
             Direction::Down => (cell + self.columns < self.size()).then_some(cell + self.columns),
-            Direction::Left => if cell % self.columns > 0 {
-                Some(cell - 1)
-            } else {
-                None
-            },
+            Direction::Left => (cell % self.columns > 0).then(|| cell - 1),
         }
     }
 

@@ -60,10 +60,9 @@ impl<'t, T: Toll> Planner<'t, T> {
         if place == self.target {
             return Err(Refusal::AtTarget);
         }
-        match next_step(self.front(), floor, place) {
-            Some(next) => Ok(u32::from(next)),
-            None => Err(Refusal::BrokenWay),
-        }
+        next_step(self.front(), floor, place)
+            .map(u32::from)
+            .ok_or(Refusal::BrokenWay)
     }
 
     /// Goes on to the next place of the recorded way. A refusal hands the same slip back.

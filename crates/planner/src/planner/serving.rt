@@ -3,17 +3,15 @@ ghost use Rattle.planner.specs.Held.{Held};
 ghost use Rattle.planner.specs.Calls.{route_answer};
 ghost use Rattle.planner.specs.Served.{world_of, turn_of, served_parked, served_under_way, served_with, served};
 ghost use Rattle.planner.specs.Promise.{Keeps};
-ghost use Rattle.planner.specs.Handed.{put_place, put_slip, step_place, step_slip, route_carrier, moved_done, place_done, route_done, change_done, read_done};
+ghost use Rattle.planner.specs.Handed.{put_place, put_slip, step_place, step_slip, route_carrier, moved_done, place_done, route_done};
 
 use super::Planner;
-use crate::answers::{Answer, Reading, Route};
+use crate::answers::{Answer, Route};
 use crate::call::Call;
 use crate::carrier::Carrier;
 use crate::slips::{Parked, UnderWay};
 use floor::Floor;
 use toll::{Refusal, Toll};
-
-// By `match`, since `map_or_else` does not take a maker of a generic answer.
 
 /// What a put hands over and answers.
 fn put_done<T: Toll>(done: Result<Parked, (Parked, Refusal)>) -> (Carrier, Answer<T>)
@@ -53,26 +51,6 @@ fn route_done<T: Toll>(
     }
 }
 
-/// What a change answers.
-fn change_done<T: Toll>(done: Result<(), Refusal>) -> Answer<T>
-    ensures { result ≡ change_done done }
-{
-    match done {
-        Ok(()) => Answer::Done,
-        Err(why) => Answer::Refused(why),
-    }
-}
-
-/// What a reading answers.
-fn read_done<T: Toll>(done: Result<Reading<T>, Refusal>) -> Answer<T>
-    ensures { result ≡ read_done done }
-{
-    match done {
-        Ok(reading) => Answer::Reading(reading),
-        Err(why) => Answer::Refused(why),
-    }
-}
-
 impl<'t, T: Toll> Planner<'t, T> {
     /// A call with a parked slip.
     fn serve_parked<F: Floor<Toll = T>>(
@@ -91,14 +69,13 @@ impl<'t, T: Toll> Planner<'t, T> {
         match call {
             Call::Change { spot, toll } => {
                 let done = self.change_by_rules(floor, spot, toll);
-                (Carrier::Parked(slip), change_done(done))
+                (Carrier::Parked(slip), Answer::from(done))
             }
             Call::Put(place) => put_done(self.put(slip, place)),
             Call::Route => route_done(self.route_by_rules(floor, slip, way)),
-            Call::Read(place) => (Carrier::Parked(slip), read_done(self.read(place))),
+            Call::Read(place) => (Carrier::Parked(slip), Answer::from(self.read(place))),
             Call::Tally => (Carrier::Parked(slip), Answer::Tally(self.tally)),
-            Call::Step => (Carrier::Parked(slip), Answer::Refused(Refusal::NotNow)),
-            Call::Halt => (Carrier::Parked(slip), Answer::Refused(Refusal::NotNow)),
+            Call::Step | Call::Halt => (Carrier::Parked(slip), Answer::Refused(Refusal::NotNow)),
         }
     }
 
@@ -120,11 +97,11 @@ impl<'t, T: Toll> Planner<'t, T> {
                 let place = slip.place;
                 (Carrier::Parked(self.halt(slip)), Answer::Place(place))
             }
-            Call::Read(place) => (Carrier::UnderWay(slip), read_done(self.read(place))),
+            Call::Read(place) => (Carrier::UnderWay(slip), Answer::from(self.read(place))),
             Call::Tally => (Carrier::UnderWay(slip), Answer::Tally(self.tally)),
-            Call::Change { .. } => (Carrier::UnderWay(slip), Answer::Refused(Refusal::NotNow)),
-            Call::Put(_) => (Carrier::UnderWay(slip), Answer::Refused(Refusal::NotNow)),
-            Call::Route => (Carrier::UnderWay(slip), Answer::Refused(Refusal::NotNow)),
+            Call::Change { .. } | Call::Put(_) | Call::Route => {
+                (Carrier::UnderWay(slip), Answer::Refused(Refusal::NotNow))
+            }
         }
     }
 
