@@ -10,6 +10,9 @@ use std::alloc::{AllocError, Global};
 use std::{fmt, io};
 use toll::{Gates, Refusal};
 
+/// A floor has at most so many places; table and buffer are mostly longer than a floor needs.
+const MOST_PLACES: usize = 1024;
+
 /// What was compared, and how often the two programs disagreed.
 #[derive(Default, Drop)]
 struct Score {
@@ -43,9 +46,8 @@ impl Score {
         from: u16,
     ) -> Result<(), AllocError> {
         let relaxed = Relaxed::of(alloc, floor, target)?;
-        let places = usize::from(floor.places());
-        let mut table = vec![in alloc; Record::blank(); places]?;
-        let mut way = vec![in alloc; 0; places]?;
+        let mut table = vec![in alloc; Record::blank(); MOST_PLACES]?;
+        let mut way = vec![in alloc; 0; MOST_PLACES]?;
         let (mut planner, slip) = Planner::make(
             &mut table,
             floor,
