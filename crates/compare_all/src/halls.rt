@@ -29,6 +29,8 @@ fn run_hall_list(session: &mut Session<'_>) -> Result<(), AllocError> {
     Ok(())
 }
 
+// Not one function with the lists on plans: the two draw in orders of their own, which the stored output holds.
+
 /// Runs lists on halls.
 pub fn run_hall_lists(
     alloc: Global,

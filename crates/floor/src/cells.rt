@@ -1,6 +1,6 @@
 ghost use Rattle.std.specs.Prelude.{◌≡◌, ◌<◌, replicate, slice_index, slice_set};
 
-// An array, since the unit uses fixed memory.
+// An array, since the unit uses fixed memory. Reading and writing ask for a cell that the hall has looked over.
 
 /// A plain table of tolls in seconds, one for each cell that a hall can have.
 #[derive(Drop)]

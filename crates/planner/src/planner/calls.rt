@@ -53,6 +53,7 @@ impl<'t, T: Toll> Planner<'t, T> {
     fn following<F: Floor<Toll = T>>(&self, floor: &F, place: u32) -> Result<u32, Refusal>
         ensures { result ≡ step_answer (F.Floor.meaning floor.now) (state_of self.now) place }
     {
+        // Tested so in three calls, each time before tests of its own.
         if floor.places() != self.places {
             return Err(Refusal::OtherFloor);
         }

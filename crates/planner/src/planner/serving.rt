@@ -13,6 +13,8 @@ use crate::slips::{Parked, UnderWay};
 use floor::Floor;
 use toll::{Refusal, Toll};
 
+// A function for each call that takes a slip: each is of another slip, and there is no `From` for a pair.
+
 /// What a put hands over and answers.
 fn put_done<T: Toll>(done: Result<Parked, (Parked, Refusal)>) -> (Carrier, Answer<T>)
     ensures slip { result.0 ≡ put_slip done }
