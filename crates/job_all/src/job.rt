@@ -17,6 +17,7 @@ use toll::{Refusal, Seconds};
 pub const LONGEST: usize = 65536;
 
 // Two loops: one state with a method for a line would hold a `&mut` beside a hall with a ghost field, which no function can hand back in a `Result` yet.
+
 /// Serves all lines once there is a floor.
 fn serve_all<S: Service>(
     planner: &mut Planner<'_, Seconds>,

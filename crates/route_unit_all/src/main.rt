@@ -14,6 +14,7 @@ fn print(rt: &HostRuntime, out: &mut String) -> anyhow::Result<()> {
 }
 
 // These two loops are those of `job_all`, but print each answer line before the next line is served.
+
 /// Serves the lines behind an accepted floor line, and prints each answer line as it is made.
 fn serve_rest(
     rt: &HostRuntime,
