@@ -1,8 +1,8 @@
 //! An inner layer of the planner: the table with the tree, and the ways that it records. Its functions take a table as it is, and some ask something of their caller.
 #![tactic(auto)]
 
-// The table and the floor stay two parameters, and the table a plain slice: a floor is shown anew to each call, and a slice of the lent table leaves what lies behind it alone by itself,
-// which a struct over it would have to say in each contract. So the few functions that number records by u16 ask for fewer than 65,536 of them.
+// The table and the floor stay two parameters, and the table a plain slice: a floor is shown anew to each call, and with a struct over the slice each of the nineteen functions of the three
+// layers that write would have to say that it still lends the same slice, so that seven need not ask for fewer than 65,536 records.
 
 mod record;
 pub mod start;
