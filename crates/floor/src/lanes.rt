@@ -58,6 +58,8 @@ impl<'f, F: Floor> Lanes<'f, F> {
     }
 
     /// The lane behind those that were given, if there is one.
+    // Inlined, with `next`, so that what does not hang on k is worked out once for all lanes of a place.
+    #[inline(always)]
     fn ask(&self) -> Option<u16>
         ensures { result ≡ slice_get (asked (F.Floor.meaning self.now.floor.now) self.now.which) self.now.k }
     {
@@ -76,6 +78,7 @@ impl<'f, F: Floor> Iterator for Lanes<'f, F> {
 
     ghost remaining = { item_count (lanes_left F.Floor.meaning) };
 
+    #[inline(always)]
     fn next(&mut self) -> Option<u16> {
         let lane = self.ask()?;
         self.floor.laws_hold();

@@ -1,12 +1,10 @@
-use Rattle.std.proofs.Common.{◌≡◌, ◌*◌, ◌≤◌, true, false, map, length, get_or, take, set, sym, ap, ◌∙◌, subst, arith}
-use Rattle.std.proofs.lemmas.List.{length-set}
-use Rattle.std.proofs.lemmas.Bool.{leb-true}
+use Rattle.std.proofs.Common.{◌≡◌, ◌*◌, true, false, map, take, set, sym, ap, ◌∙◌, arith}
 use Rattle.toll.specs.SecondsKind.{seconds, seconds_kind}
-use Rattle.toll.specs.declared.refusal.Refusal.TheVariants.{UnknownSpot, BelowLeast}
+use Rattle.toll.specs.declared.refusal.Refusal.TheVariants.{BelowLeast}
 use Rattle.floor.specs.Setting.{answer_at, if_enough}
 use Rattle.floor.specs.Grid.{grid_meaning, hall_meaning}
 use Rattle.floor.proofs.FloorFacts.{set_refused, set_taken}
-use Rattle.floor.proofs.HallFacts.{spot_at, spot_past, stored_meaning, stored_above}
+use Rattle.floor.proofs.HallFacts.{spot_at, stored_meaning}
 use Rattle.floor.proofs.hall.floored.HallFloor.set_toll.Goals as goal
 
 pub returns-then-not-at_most : goal.returns-then-not-at_most
