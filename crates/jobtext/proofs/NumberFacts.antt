@@ -4,13 +4,19 @@ use Rattle.std.proofs.Math.Nat.{pow-le-pow_right}
 use Rattle.std.proofs.lemmas.Bool.Decides.{nat_tests}
 use Rattle.std.proofs.lemmas.Fn.{fronts}
 use Rattle.std.proofs.lemmas.Nat.{pow-add}
+use Rattle.std.specs.Char.{is_ascii_digit}
 use Rattle.std.specs.ControlFlow.{continue_value}
 use Rattle.std.specs.Fn.{Called, Takes}
 use Rattle.std.specs.Iterator.{Yields, TryFoldsItems, CallableAtEachTurn}
-use Rattle.std.specs.List.{FoldsTo}
+use Rattle.std.specs.List.{list_all, FoldsTo}
 use Rattle.std.specs.Option.{MatchOption}
 use denote.Param.Members.{Mut}
 use Rattle.jobtext.specs.Numbers.{digit, digits, value}
+
+-- The library's test of a digit is this crate's.
+pub digits_all : (bs : List ℕ) → list_all is_ascii_digit bs ≡ digits bs
+digits_all [] = refl
+digits_all (b ∷ bs) = ap (λ t. digit b && t) (digits_all bs)
 
 -- The first k bytes of bs are digits, which make m of n, and cs is left.
 pub record Read (bs : List ℕ) (n k : ℕ) (cs : List ℕ) (m : ℕ) : Type 0 where
