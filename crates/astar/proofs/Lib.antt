@@ -1,5 +1,6 @@
 pub mod Charts
 pub mod Order
+pub mod Expanding
 pub mod Lanes
 pub mod Choosing
 pub mod Relaxing

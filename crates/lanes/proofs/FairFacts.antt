@@ -1,26 +1,27 @@
 -- The test of a list says the same as its words.
-use Rattle.std.proofs.Common.{◌≡◌, ℕ, zero, suc, true, false, not, ◌&&◌, List, [], ◌∷◌, Some, sym, refl, ap, ◌∙◌, ⊎_elim, arith}
+use Rattle.std.proofs.Common.{◌≡◌, ℕ, zero, suc, Bool, true, false, cond, not, ◌&&◌, List, [], ◌∷◌, length, Some, Ok, Err, sym, refl, ap, ◌∙◌, ⊎_elim, arith}
 use Rattle.std.specs.List.{slice_get}
 use Rattle.std.proofs.lemmas.Bool.{and_parts, and_from, or_cases, not-true, not_from_false, false_from_ne_true, both_ways}
 use Rattle.std.proofs.lemmas.Bool.Decides.{nat_tests}
 use Rattle.std.proofs.lemmas.Map.Keys.{any_passes_from_place}
 use Rattle.lanes.specs.declared.record.LaneRecord.{LaneRecord}
-use Rattle.lanes.specs.Records.{same_ends, appears, placed, all_fair, Placed, Fair}
+use Rattle.toll.specs.declared.refusal.Refusal.TheVariants.{FloorSize, LaneRecord as BadRecord}
+use Rattle.lanes.specs.Records.{same_ends, appears, placed, all_fair, plan_size, plan_answer, Placed, Fair}
 
 module _ {T : Type 0} where
-  is_placed : (places : ℕ) (r : LaneRecord T) → placed places r ≡ true → Placed places r
+  pub is_placed : (places : ℕ) (r : LaneRecord T) → placed places r ≡ true → Placed places r
   is_placed places r e = record { leaves_place = grind (arith, nat_tests); enters_place = grind (arith, nat_tests); ends_differ = λ q. grind (arith, nat_tests) }
 
-  placed_is : (places : ℕ) (r : LaneRecord T) → Placed places r → placed places r ≡ true
+  pub placed_is : (places : ℕ) (r : LaneRecord T) → Placed places r → placed places r ≡ true
   placed_is places r p =
       let a = p.leaves_place in let b = p.enters_place in let n = p.ends_differ in grind (arith, nat_tests)
 
   -- no record of a list has the ends of r, if the test says so
-  never : (r s : LaneRecord T) (ss : List (LaneRecord T)) (k : ℕ) → appears r ss ≡ false → slice_get ss k ≡ Some s → r.leaves ≡ s.leaves → r.enters ≡ s.enters → ⊥
+  pub never : (r s : LaneRecord T) (ss : List (LaneRecord T)) (k : ℕ) → appears r ss ≡ false → slice_get ss k ≡ Some s → r.leaves ≡ s.leaves → r.enters ≡ s.enters → ⊥
   never r s ss k e f p q = both_ways (appears r ss) e (any_passes_from_place (same_ends r) ss k s f (grind (arith, nat_tests)))
 
   -- and if it says that one has, there is one
-  found : (r : LaneRecord T) (ss : List (LaneRecord T)) → appears r ss ≡ true → (k : ℕ) × (s : LaneRecord T) × (slice_get ss k ≡ Some s) × (r.leaves ≡ s.leaves) × (r.enters ≡ s.enters)
+  pub found : (r : LaneRecord T) (ss : List (LaneRecord T)) → appears r ss ≡ true → (k : ℕ) × (s : LaneRecord T) × (slice_get ss k ≡ Some s) × (r.leaves ≡ s.leaves) × (r.enters ≡ s.enters)
   found r [] e = absurd (cc)
   found r (s ∷ ss) e =
       ⊎_elim (λ (h : same_ends r s ≡ true). (0, s, refl, grind (arith, nat_tests), grind (arith, nat_tests)))
@@ -59,3 +60,7 @@ module _ {T : Type 0} where
 
       once : appears x rs ≡ false
       once = false_from_ne_true (appears x rs) (λ e. let y = found x rs e in let z = f.single 0 (suc y.0) x y.1 refl y.2 y.3 y.4 in omega arith)
+
+  -- what the check answers, by its two tests
+  pub answer_is : (places : ℕ) (rs : List (LaneRecord T)) (a b : Bool) → plan_size places (length rs) ≡ a → all_fair places rs ≡ b → plan_answer places rs ≡ cond a (cond b (Ok tt) (Err BadRecord)) (Err FloorSize)
+  answer_is places rs a b e f i = cond (e i) (cond (f i) (Ok tt) (Err BadRecord)) (Err FloorSize)

@@ -28,6 +28,11 @@ mapped : {X Y : Type 0} (f : X → Y) (P : Y → Type 0) (o : Option X) (y : Y) 
 mapped f P None y e h = absurd (cc)
 mapped f P (Some x) y e h = subst P (same_Some (f x) y e) (h x refl)
 
+module _ {T : Type 0} (rs : List (LaneRecord T)) where
+  -- a record is the lane of its number
+  pub lane_there : (l : ℕ) (r : LaneRecord T) → slice_get rs l ≡ Some r → lane_of rs l ≡ Some (lane_as l r)
+  lane_there l r e = ap (option_map (lane_as l)) e
+
 module _ {T : Type 0} (A : Tolls T) (places : ℕ) (rs : List (LaneRecord T)) where
   -- so what holds of each record as a lane holds of each lane, and what holds of each as a spot of each spot
   each_lane : (P : Lane → Type 0) (l : ℕ) (x : Lane) → lane_of rs l ≡ Some x → ((r : LaneRecord T) → slice_get rs l ≡ Some r → P (lane_as l r)) → P x
@@ -61,12 +66,12 @@ module _ {T : Type 0} (A : Tolls T) (places : ℕ) (rs : List (LaneRecord T)) wh
   known_spot l x e = omega (arith, numbered l x e, own_spot l x e)
 
   -- each spot has one lane, of its own number
-  spot_one : (s : ℕ) → s < length rs → of_spot (list_meaning A places rs) s ≡ s ∷ []
+  pub spot_one : (s : ℕ) → s < length rs → of_spot (list_meaning A places rs) s ≡ s ∷ []
   spot_one s h =
       let L = lanes_listed (λ x. x.spot) s in let b = below_length rs s h in
       same_rising 0 _ (s ∷ []) L.rising (omega arith, tt)
       (λ l i. let x = L.only l i in inl (sym (own_spot l x.0 x.1) ∙ x.2))
-      (λ l i. ⊎_elim (λ (e : l ≡ s). subst (λ (n : ℕ). In n (of_spot (list_meaning A places rs) s)) (sym e) (L.every s (lane_as s b.0) (ap (option_map (lane_as s)) b.1) refl)) (λ (n : ⊥). absurd n) i)
+      (λ l i. ⊎_elim (λ (e : l ≡ s). subst (λ (n : ℕ). In n (of_spot (list_meaning A places rs) s)) (sym e) (L.every s (lane_as s b.0) (lane_there rs s b.0 b.1) refl)) (λ (n : ⊥). absurd n) i)
 
   -- so the k-th is there for one k alone
   pub spot_nth : (s k : ℕ) (t : Bool) → t ≡ (ltb s (length rs) && eqb k 0) → then_some t s ≡ slice_get (of_spot (list_meaning A places rs) s) k
@@ -79,7 +84,7 @@ module _ {T : Type 0} (A : Tolls T) (places : ℕ) (rs : List (LaneRecord T)) wh
       first zero = refl
       first (suc k) = ap (λ b. then_some b s) (ne_eqb (suc k) 0 (λ e. omega arith))
 
-  list_laws : TollLaws A → Fits places rs → FloorLaws A (list_meaning A places rs)
+  pub list_laws : TollLaws A → Fits places rs → FloorLaws A (list_meaning A places rs)
   list_laws L fits =
       let leaves : (l : ℕ) (x : Lane) → lane_of rs l ≡ Some x → x.leaves < places = λ l x e. each_lane (λ y. y.leaves < places) l x e (λ r f. (fits.fair.ends l r f).leaves_place) in
       let enters : (l : ℕ) (x : Lane) → lane_of rs l ≡ Some x → x.enters < places = λ l x e. each_lane (λ y. y.enters < places) l x e (λ r f. (fits.fair.ends l r f).enters_place) in

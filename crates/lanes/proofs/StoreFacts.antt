@@ -7,7 +7,7 @@ use Rattle.floor.specs.Meaning.{Spot}
 use Rattle.floor.specs.Setting.{with_toll}
 use Rattle.lanes.specs.declared.record.LaneRecord.{LaneRecord}
 use Rattle.lanes.specs.Records.{same_ends, appears, placed, all_fair}
-use Rattle.lanes.specs.Plans.{lane_as, spot_of, zero_between, list_meaning, retolled}
+use Rattle.lanes.specs.Plans.{lane_as, lane_of, spot_of, zero_between, list_meaning, retolled}
 
 module _ {T : Type 0} where
   -- as the code stores it
@@ -38,12 +38,15 @@ module _ {T : Type 0} where
   retolled_fair places (r ∷ rs) (suc k) t =
       let a = retolled_appears r rs k t in let f = retolled_fair places rs k t in λ i. placed places r && not (a i) && f i
 
-  retolled_lane : (n : ℕ) (rs : List (LaneRecord T)) (k l : ℕ) (t : T) → option_map (lane_as n) (slice_get (retolled rs k t) l) ≡ option_map (lane_as n) (slice_get rs l)
-  retolled_lane n [] k l t = refl
-  retolled_lane n (r ∷ rs) zero zero t = refl
-  retolled_lane n (r ∷ rs) zero (suc l) t = refl
-  retolled_lane n (r ∷ rs) (suc k) zero t = refl
-  retolled_lane n (r ∷ rs) (suc k) (suc l) t = retolled_lane n rs k l t
+  retolled_ends : (n : ℕ) (rs : List (LaneRecord T)) (k l : ℕ) (t : T) → option_map (lane_as n) (slice_get (retolled rs k t) l) ≡ option_map (lane_as n) (slice_get rs l)
+  retolled_ends n [] k l t = refl
+  retolled_ends n (r ∷ rs) zero zero t = refl
+  retolled_ends n (r ∷ rs) zero (suc l) t = refl
+  retolled_ends n (r ∷ rs) (suc k) zero t = refl
+  retolled_ends n (r ∷ rs) (suc k) (suc l) t = retolled_ends n rs k l t
+
+  pub retolled_lane : (rs : List (LaneRecord T)) (k l : ℕ) (t : T) → lane_of (retolled rs k t) l ≡ lane_of rs l
+  retolled_lane rs k l t = retolled_ends l rs k l t
 
   retolled_spots : (A : Tolls T) (rs : List (LaneRecord T)) (k : ℕ) (t : T) → map (spot_of A) (retolled rs k t) ≡ set (map (spot_of A) rs) k (record { toll = t; least = A.zero })
   retolled_spots A [] k t = refl
@@ -58,7 +61,7 @@ module _ {T : Type 0} where
       let m : list_meaning A places (retolled rs k t) ≡ with_toll (list_meaning A places rs) k (Some (spot_of A r)) t = λ i. record {
         places = places;
         lanes = n i;
-        lane = λ l. retolled_lane l rs k l t i;
+        lane = λ l. retolled_lane rs k l t i;
         spots = s i;
         estimate = zero_between A places;
       } in

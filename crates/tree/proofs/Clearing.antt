@@ -14,3 +14,8 @@ module _ {T : Type 0} (rs : List (Record T)) (i : ℕ) where
 
   pub clear_all : (n : ℕ) → i ≡ n → length rs ≡ n → take i (tree_of rs) ≡ replicate i blank_entry → tree_of rs ≡ replicate n blank_entry
   clear_all n e f inv = sym (take_all i (tree_of rs) (omega (arith, tree_length rs i))) ∙ inv ∙ ap (λ (k : ℕ). replicate k blank_entry) e
+
+-- a cleared table with the target open is the start
+pub started : {T : Type 0} (A : Tolls T) (E E' : List (Entry T)) (n t : ℕ) (z : T) → z ≡ A.zero → E ≡ replicate n blank_entry → E' ≡ set E t (record { toll = Some z; next = None; is_open = true }) → E' ≡ start_tree A n t
+started A E E' n t z e f h =
+    h ∙ ap (λ F. set F t (record { toll = Some z; next = None; is_open = true })) f ∙ ap (λ v. set (replicate n blank_entry) t (record { toll = Some v; next = None; is_open = true })) e

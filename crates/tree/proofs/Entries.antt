@@ -1,9 +1,9 @@
 -- A table's records and the entries that they stand for.
-use Rattle.std.proofs.Common.{◌≡◌, ℕ, ◌<◌, false, List, length, get_or, set, sym, ap, ◌∙◌}
+use Rattle.std.proofs.Common.{◌≡◌, ℕ, ◌<◌, ◌≤◌, false, List, length, get_or, set, sym, ap, ◌∙◌}
 use Rattle.std.specs.Option.{option_map}
 use Rattle.std.specs.List.{slice_get}
 use Rattle.std.proofs.lemmas.List.{map-set, length-map}
-use Rattle.std.proofs.lemmas.Option.{slice_get-get_or, slice_get-map}
+use Rattle.std.proofs.lemmas.Option.{slice_get-get_or, slice_get-map, slice_get_past}
 use Rattle.tree.specs.Tree.{entry_of, tree_of, close_at}
 use Rattle.tree.specs.declared.record.Record.{Record}
 
@@ -19,3 +19,7 @@ module _ {T : Type 0} (rs : List (Record T)) (p : ℕ) where
   pub closed_there : (d : Record T) → p < length rs →
       tree_of (set rs p (record { toll = (get_or rs p d).toll; next = (get_or rs p d).next; is_open = false; is_cut = (get_or rs p d).is_cut })) ≡ close_at (tree_of rs) p (slice_get (tree_of rs) p)
   closed_there d h = tree_set _ ∙ ap (close_at (tree_of rs) p) (sym (slice_get-map entry_of rs p ∙ ap (option_map entry_of) (slice_get-get_or rs p d h)))
+
+  -- past the end there is none to close
+  pub closed_past : length rs ≤ p → tree_of rs ≡ close_at (tree_of rs) p (slice_get (tree_of rs) p)
+  closed_past h = ap (close_at (tree_of rs) p) (sym (slice_get-map entry_of rs p ∙ ap (option_map entry_of) (slice_get_past rs p h)))
