@@ -1,5 +1,6 @@
 pub mod FloorLines
 pub mod Fitting
+pub mod Buffers
 pub mod Running
 pub mod AnswerTexts
 pub mod Formless

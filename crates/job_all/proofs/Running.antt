@@ -1,10 +1,10 @@
 -- The loops over the lines of a job.
-use Rattle.std.proofs.Common.{◌≡◌, ℕ, Bool, List, [], ◌∷◌, ◌++◌, Some, None, Ok, Err, Result, sym, refl, ap, ◌∙◌, subst, append_assoc, append-nil}
+use Rattle.std.proofs.Common.{◌≡◌, ℕ, Bool, List, ◌∷◌, ◌++◌, Some, None, Ok, Err, Result, sym, refl, ap, ◌∙◌, subst, append_assoc}
 use Rattle.toll.specs.SecondsKind.{seconds_kind}
 use Rattle.toll.specs.declared.seconds.Seconds.{Seconds}
 use Rattle.toll.specs.declared.refusal.Refusal.{Refusal}
 use Rattle.planner.specs.Calls.{State, set_up_answer, set_up_state}
-use Rattle.planner.specs.Served.{World, parked_at}
+use Rattle.planner.specs.Served.{parked_at}
 use Rattle.planner.specs.Reachable.{Start, start_world}
 use Rattle.planner.specs.declared.carrier.Carrier.{Carrier}
 use Rattle.jobtext.specs.Parsing.{parse_line}
@@ -12,7 +12,7 @@ use Rattle.job_all.specs.declared.standing.Standing.{Standing}
 use Rattle.job_all.specs.declared.standing.Standing.TheVariants.{Empty}
 use Rattle.job_all.specs.Decisions.{decided_under}
 use Rattle.job_all.specs.declared.opening.Opening.{Opening}
-use Rattle.job_all.specs.Jobs.{Stage, empty, running, start_of, opened_stage, found_by, opened_under, served_under, stepped_under, lines_under}
+use Rattle.job_all.specs.Jobs.{Stage, empty, running, start_of, opened_stage, found_by, opened_under, stepped_under, lines_under}
 use Rattle.job_all.proofs.FloorLines.{SetUp, sets_up}
 
 module _ (allowed : ℕ → Standing → Bool) where

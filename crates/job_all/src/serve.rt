@@ -1,8 +1,9 @@
 ghost use Rattle.std.specs.Prelude.{◌≡◌, [], ◌++◌, IfOk, string_bytes, OnOk};
+ghost use Rattle.toll.specs.SecondsKind.{seconds_kind};
 ghost use Rattle.floor.specs.Grid.{hall_meaning};
-ghost use Rattle.planner.specs.Served.{world_of};
+ghost use Rattle.planner.specs.Served.{world_of, turn_of, served};
 ghost use Rattle.jobtext.specs.Texts.{reply_text};
-ghost use Rattle.job_all.specs.Jobs.{refusal_line, answer_line, call_of, served_under};
+ghost use Rattle.job_all.specs.Jobs.{refusal_line, answer_line, call_of, as_line, served_under};
 ghost use Rattle.job_all.specs.Fitting.{WayFits};
 
 use super::decide::{Service, decide};
@@ -81,6 +82,24 @@ fn write_answer(out: &mut String, answer: Answer<Seconds>, way: &[u16]) -> fmt::
     }
 }
 
+/// Serves one call with that buffer for a way, and adds its answer line.
+fn serve_call(
+    planner: &mut Planner<'_, Seconds>,
+    hall: &mut Hall,
+    carrier: Carrier,
+    call: Call<Seconds>,
+    way: &mut [u16],
+    out: &mut String,
+) -> Result<Carrier, fmt::Error>
+    ensures world { OnOk result (world_of (hall_meaning hall.new) planner.new ≡ (as_line (served seconds_kind (world_of (hall_meaning hall.old) planner.old) (turn_of carrier call way.old))).world) }
+    ensures carrier { IfOk result (λ c. c ≡ (as_line (served seconds_kind (world_of (hall_meaning hall.old) planner.old) (turn_of carrier call way.old))).slip) }
+    ensures text { OnOk result (string_bytes out.new ≡ string_bytes out.old ++ (as_line (served seconds_kind (world_of (hall_meaning hall.old) planner.old) (turn_of carrier call way.old))).text) }
+{
+    let (carrier, answer) = planner.serve(hall, carrier, call, way);
+    write_answer(out, answer, way)?;
+    Ok(carrier)
+}
+
 /// Serves one line once there is a floor, and adds its answer line.
 pub fn serve_line_by<S: Service>(
     planner: &mut Planner<'_, Seconds>,
@@ -104,12 +123,11 @@ pub fn serve_line_by<S: Service>(
                 refuse(out, Refusal::NotNow)?;
                 Ok(carrier)
             }
-            Some(call) => {
-                let mut way = [0u16; 1024];
-                let (carrier, answer) = planner.serve(hall, carrier, call, &mut way);
-                write_answer(out, answer, &way)?;
-                Ok(carrier)
-            }
+            // Only a route writes into its buffer.
+            Some(call) => match call {
+                Call::Route => serve_call(planner, hall, carrier, call, &mut [0; 1024], out),
+                _ => serve_call(planner, hall, carrier, call, &mut [], out),
+            },
         },
     }
 }

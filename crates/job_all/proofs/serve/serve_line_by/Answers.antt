@@ -1,10 +1,9 @@
 use Rattle.floor.specs.Grid.{hall_meaning}
-use Rattle.planner.specs.Served.{world_of, turn_of}
-use Rattle.std.proofs.Common.{replicate}
-use Rattle.job_all.proofs.Fitting.{served_fits}
+use Rattle.planner.specs.Served.{world_of}
+use Rattle.job_all.proofs.Buffers.{line_alike}
 use Rattle.job_all.proofs.serve.serve_line_by.Goals as goal
 
-pub write_answer-requires : goal.write_answer-requires
-write_answer-requires g c =
-    served_fits (world_of (hall_meaning c.args.hall.now) c.args.planner.now) (turn_of c.args.carrier c.in-Some.call (replicate 1024 0)) _ _
-    c.serve-carrier.ensures.answer c.serve-carrier.ensures.buffer c.serve-carrier.auto.way
+pub returns-in_default : goal.returns-in_default
+returns-in_default g c =
+    let W = world_of (hall_meaning c.args.hall.now) c.args.planner.now in
+    rw (line_alike g.S.Service.allowed W c.args.carrier c.args.text.now c.in-Ok.line c.in-Some.call (cc) (cc) c.in_default.not-Route) c.serve_call-in_default.ensures
