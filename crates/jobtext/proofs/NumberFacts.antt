@@ -28,7 +28,7 @@ pub record Read (bs : List ℕ) (n k : ℕ) (cs : List ℕ) (m : ℕ) : Type 0 w
 read_none : (bs : List ℕ) (n : ℕ) → Read bs n 0 bs n
 read_none bs n = record { all = refl; same = refl; left = omega arith; small = λ i j e h. let q : j ≡ i = omega arith in rw q h }
 
-read_more : (b : ℕ) (bs : List ℕ) (n k : ℕ) (cs : List ℕ) (m : ℕ) → digit b ≡ true → Read bs (10 * n + (b - 48)) k cs m → Read (b ∷ bs) n (suc k) cs m
+pub read_more : (b : ℕ) (bs : List ℕ) (n k : ℕ) (cs : List ℕ) (m : ℕ) → digit b ≡ true → Read bs (10 * n + (b - 48)) k cs m → Read (b ∷ bs) n (suc k) cs m
 read_more b bs n k cs m t r = record {
   all = ap (λ d. d && digits bs) t ∙ r.all;
   same = r.same;
@@ -36,7 +36,7 @@ read_more b bs n k cs m t r = record {
   small = λ i j e h. let d : b ≤ 57 = grind (arith, nat_tests) in r.small (i + 1) j (omega arith) (omega (arith, pow-add 10 i 1));
 }
 
-read_all : (bs : List ℕ) (n : ℕ) → length bs ≡ 0 → (digits bs ≡ true) × (value n bs ≡ n)
+pub read_all : (bs : List ℕ) (n : ℕ) → length bs ≡ 0 → (digits bs ≡ true) × (value n bs ≡ n)
 read_all [] n h = (refl, refl)
 read_all (b ∷ bs) n h = absurd (omega arith)
 

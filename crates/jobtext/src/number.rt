@@ -16,7 +16,7 @@ fn digits_value(word: &[u8]) -> Option<u64>
     requires { length word.now ≤ 10 }
     ensures { result ≡ (if digits word.now then Some (value 0 word.now) else None) }
 {
-    // By hand and in one pass: by the library's `from_utf8` and `parse` it takes 2.3 times as long.
+    // By hand and in one pass: by the library's `from_utf8` and `parse` it takes twice as long.
     word.iter().try_fold(0, |number: u64, b| match b {
         b'0'..=b'9' => Some(10 * number + u64::from(b - b'0')),
         _ => None,
